@@ -1,0 +1,11 @@
+use mathlib.Core.Path.{_≡_, sym, ap, _∙_}
+use mathlib.Core.Bool.{Bool, not}
+use Rattle.points.specs.Sets.{common, single, isEmpty}
+use Rattle.points.specs.declared.set.PointSet.{PointSet}
+use Rattle.points.proofs.Members.{contains-single}
+use Rattle.points.proofs.set.PointSet.contains.Needs as need
+
+pub returns : need.returns
+returns c =
+    ap not (c .is-empty .ensures .value ∙ ap isEmpty (c .intersection .ensures .value ∙ ap (common (c .args .self)) (c .of .ensures .value)))
+    ∙ contains-single (c .args .self) (c .args .point .number) (c .args .point .positive) (c .args .point .small)

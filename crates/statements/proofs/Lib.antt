@@ -1,0 +1,3 @@
+pub mod ClauseLaws
+pub mod LiteralLaws
+pub mod MakeLaws

@@ -1,0 +1,13 @@
+use mathlib.Core.Path.{_≡_, refl, ap₂, _∙_}
+use Rattle.points.specs.Sets.{none, common, isEmpty}
+use Rattle.statements.specs.Literals.{bare}
+use Rattle.statements.proofs.LiteralLaws.{same-literals}
+use Rattle.statements.proofs.literals.LiteralSet.empty.Needs as need
+
+pub ghost-result : need.ghost-result
+unfolding bare common isEmpty
+ghost-result c = (ap₂ (λ s t. isEmpty (common s t)) (c .empty .ensures .value) (c .empty-2 .ensures .value) ∙ bare .apart, tt)
+
+pub returns : need.returns
+unfolding bare
+returns c = same-literals _ bare (c .empty .ensures .value) (c .empty-2 .ensures .value)

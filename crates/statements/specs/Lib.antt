@@ -1,0 +1,4 @@
+pub mod Clauses
+pub mod Kind
+pub mod Literals
+pub mod Making

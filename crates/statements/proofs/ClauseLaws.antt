@@ -273,7 +273,7 @@ combine-sound s t r p h a fs ft = go (cases-eq (pointOf (fs .0)) p) (cases-eq (p
         absurd (not-shared (s .literals) (t .literals) p (c .oppose) (fs .0) e (fs .1) (sym (ap (names (t .literals)) same) ∙ ft .1))
 
 -- a point that a clause names is the point of a literal
-named-literal : (c : Clause) (p : ℕ) → member (named c) p ≡ true → (z : ℤ) × (pointOf z ≡ p) × (names (c .literals) z ≡ true)
+pub named-literal : (c : Clause) (p : ℕ) → member (named c) p ≡ true → (z : ℤ) × (pointOf z ≡ p) × (names (c .literals) z ≡ true)
 named-literal c p m = go p (or-cases (member (c .literals .yes) p) (member (c .literals .no) p) (sym (member-joined (c .literals .yes) (c .literals .no) p) ∙ m))
   where
     go : (p : ℕ) → (member (c .literals .yes) p ≡ true) ⊎ (member (c .literals .no) p ≡ true) → (z : ℤ) × (pointOf z ≡ p) × (names (c .literals) z ≡ true)

@@ -1,0 +1,68 @@
+use mathlib.Core.Path.{_≡_, refl, sym, ap, subst, _∙_}
+use Prim.Native.Nat.{ℕ, _+_, _≤_}
+use native.Mathlib.Omega.{arith}
+use lib.ListN.{length, drop}
+use Rattle.std.specs.declared.result.Result.the-variants.{Err}
+use Rattle.cases.specs.Refusals.{openRefusal}
+use Rattle.cases.specs.declared.fault.OpenFault.{OpenFault}
+use Rattle.cases.specs.declared.fault.OpenFault.the-variants.{Points}
+use Rattle.lexer.specs.Text.{tokensFrom}
+use Rattle.dimacs.specs.Reading.{Reading, begun, body, reading, over}
+use Rattle.dimacs.specs.Steps.{Answers}
+use Rattle.dimacs.specs.declared.fault.Cause.{Cause}
+use Rattle.dimacs.specs.declared.fault.Cause.the-variants.{Open}
+use Rattle.dimacs.proofs.ReadLaws.{reading-long, reading-comments, reading-bad, reading-points, reading-body}
+use Rattle.dimacs.proofs.reader.read.Needs as need
+
+pub returns-then-text-gt-MOST-BYTES : need.returns-then-text-gt-MOST-BYTES
+returns-then-text-gt-MOST-BYTES c =
+    let e = reading-long (length (c .args .table .now)) (c .args .text .now) (c .if-text-gt-MOST-BYTES .taken) in
+    record { answer = ap (λ (x : Reading). x .answer) e; rows = sym (ap (λ (x : Reading). over (x .clauses) (c .args .table .now)) e) }
+
+pub returns-in-rest : need.returns-in-rest
+returns-in-rest c =
+    let e = reading-comments (length (c .args .table .now)) (c .args .text .now) (c .if-text-gt-MOST-BYTES .left) (c .in-rest .ensures tt) in
+    record { answer = ap (λ (x : Reading). x .answer) e; rows = sym (ap (λ (x : Reading). over (x .clauses) (c .args .table .now)) e) }
+
+pub returns-in-rest-parse : need.returns-in-rest-parse
+returns-in-rest-parse c =
+    let e =
+            reading-bad (length (c .args .table .now)) (c .args .text .now) (c .if-text-gt-MOST-BYTES .left) (c .in-Some .field-0 .start) (c .in-Some .field-0 .end) (c .in-Some .ensures tt)
+            (sym (c .in-rest-parse .ensures tt .value)) in
+    record { answer = ap (λ (x : Reading). x .answer) e; rows = sym (ap (λ (x : Reading). over (x .clauses) (c .args .table .now)) e) }
+
+pub returns-in-Ok : need.returns-in-Ok
+returns-in-Ok c =
+    let table = c .args .table .now in
+    let text = c .args .text .now in
+    let d = c .in-Some-parse .header in
+    let case = c .in-Ok .case in
+    let points = c .in-Ok .ensures tt .points-are in
+    let start = c .in-Some .field-0 .start in
+    let end = c .in-Some .field-0 .end in
+    let e : body (case .points) (d .clauses) (length table) (length text) (tokensFrom end (drop end text)) begun ≡ reading (length table) text =
+            ap (λ (n : ℕ). body n (d .clauses) (length table) (length text) (tokensFrom end (drop end text)) begun) points
+            ∙ sym
+                (reading-body (length table) text (c .if-text-gt-MOST-BYTES .left) start end (c .in-Some .ensures tt) d (sym (c .in-Some-parse .ensures tt .value))
+                (omega (arith, points, case .some)) (omega (arith, points, case .few))) in
+    record {
+      answer = subst (λ (x : Reading). Answers x (c .read-body .result)) e (c .read-body .ensures .answer);
+      rows = c .read-body .ensures .rows ∙ ap (λ (x : Reading). over (x .clauses) table) e;
+    }
+
+-- an opening is refused for the number of points alone
+refused-points : (e : OpenFault) (n : ℕ) → openRefusal e .1 n → (e ≡ Points) × (1 ≤ n → n ≤ 64 → ⊥)
+refused-points Points n h = (refl, h)
+
+pub returns-in-Err : need.returns-in-Err
+returns-in-Err c =
+    let d = c .in-Some-parse .header in
+    let start = c .in-Some .field-0 .start in
+    let why = refused-points (c .in-Err .fault) (d .points) (c .in-Err .ensures tt) in
+    let e =
+            reading-points (length (c .args .table .now)) (c .args .text .now) (c .if-text-gt-MOST-BYTES .left) start (c .in-Some .field-0 .end) (c .in-Some .ensures tt) d
+            (sym (c .in-Some-parse .ensures tt .value)) (why .1) in
+    record {
+      answer = ap (λ (x : Reading). x .answer) e ∙ ap (λ (x : Cause). Err (record { cause = x; place = start + d .«points_at» })) (sym (c .into .ensures ∙ ap Open (why .0)));
+      rows = sym (ap (λ (x : Reading). over (x .clauses) (c .args .table .now)) e);
+    }

@@ -1,0 +1,4 @@
+pub mod Denoting
+pub mod Plain
+pub mod Reading
+pub mod Steps

@@ -1,0 +1,21 @@
+// The lexical layer of a reader of clause files: lines, words, numbers and the header line of a text of bytes.
+mod headers;
+mod numbers;
+mod pieces;
+
+pub use headers::Header;
+pub use headers::HeaderDebug;
+pub use headers::HeaderPartialEq;
+pub use headers::header_line;
+pub use numbers::number;
+pub use numbers::numeral;
+pub use pieces::Cut;
+pub use pieces::Span;
+pub use pieces::SpanDebug;
+pub use pieces::SpanPartialEq;
+pub use pieces::next_word;
+pub use pieces::piece_end;
+pub use pieces::skip;
+
+#[cfg(test)]
+mod tests;

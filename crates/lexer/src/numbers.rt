@@ -1,0 +1,35 @@
+// The numbers that tokens write.
+ghost use mathlib.Core.Path.{_≡_};
+ghost use Rattle.lexer.specs.Numerals.{numeralOf, numberOf};
+
+const MAX_DIGITS: usize = 5;
+
+// The value of a numeral, which is one to five digits.
+pub fn numeral(digits: &[u8]) -> Option<u32>
+    ensures { λ r. ⌜ r ≡ numeralOf (now (digits .entry)) ⌝ }
+{
+    if digits.is_empty() || digits.len() > MAX_DIGITS {
+        return None;
+    }
+    let mut value: u32 = 0;
+    for byte in digits {
+        if !byte.is_ascii_digit() {
+            return None;
+        }
+        value = value * 10 + (*byte - b'0') as u32;
+    }
+    Some(value)
+}
+
+// The value of a number: a numeral, or a minus and a numeral that is not 0.
+pub fn number(token: &[u8]) -> Option<i32>
+    ensures { λ r. ⌜ r ≡ numberOf (now (token .entry)) ⌝ }
+{
+    match token {
+        [b'-', digits @ ..] => match numeral(digits)? {
+            0 => None,
+            value => Some(-(value as i32)),
+        },
+        _ => Some(numeral(token)? as i32),
+    }
+}

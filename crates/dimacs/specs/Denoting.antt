@@ -3,11 +3,13 @@ use mathlib.Core.Path.{_≡_}
 use mathlib.Core.List.{List, [], _∷_, _++_}
 use Prim.Native.Nat.{ℕ, _≤_}
 use lib.IntN.{ℤ, pos}
-use lib.ListN.{length}
+use lib.ListN.{length, take}
 use Rattle.std.specs.declared.option.Option.{Option}
 use Rattle.std.specs.declared.option.Option.the-variants.{Some, None}
-use Rattle.std.specs.declared.result.Result.the-variants.{Ok}
+use Rattle.std.specs.declared.result.Result.{Result}
+use Rattle.std.specs.declared.result.Result.the-variants.{Ok, Err}
 use Rattle.cases.specs.Refusals.{usable}
+use Rattle.cases.specs.declared.open.OpenCase.{OpenCase}
 use Rattle.lexer.specs.Headers.{headed, headerOf}
 use Rattle.lexer.specs.Numerals.{numberOf}
 use Rattle.lexer.specs.Text.{Piece, linesFrom, tokens}
@@ -15,6 +17,9 @@ use Rattle.points.specs.Sets.{greatest}
 use Rattle.statements.specs.Clauses.{named}
 use Rattle.statements.specs.Making.{made}
 use Rattle.statements.specs.declared.clause.Clause.{Clause}
+use Rattle.dimacs.specs.Reading.{reading, over}
+use Rattle.dimacs.specs.Steps.{Answers}
+use Rattle.dimacs.specs.declared.fault.Fault.{Fault}
 
 abbrev pub andThen : Option ℤ → Option (List ℤ) → Option (List ℤ)
 andThen None zs = None
@@ -55,3 +60,15 @@ pub record Case (rows : ℕ) (text : List ℕ) (n : ℕ) (cs : List Clause) : Ty
   pub few : n ≤ 64
   pub room : length cs ≤ usable rows
   pub denotes : Denotes text n cs
+
+-- A text is read where it is a case, and then the first rows have its clauses; a text that is refused is no case.
+abbrev pub Judged : ℕ → List ℕ → List Clause → Result OpenCase Fault → Type 0
+Judged rows text table (Ok c) = Case rows text (c .points) (take (c .filed) table)
+Judged rows text table (Err f) = (n : ℕ) (cs : List Clause) → Case rows text n cs → ⊥
+
+-- What reading a text into a lent table answers and leaves: the definition's answer, which judges the text, and its clauses in the
+-- first rows, with the rows after them as they were.
+pub record Reads (text : List ℕ) (table after : List Clause) (r : Result OpenCase Fault) : Type 0 where
+  pub answer : Answers (reading (length table) text) r
+  pub judged : Judged (length table) text after r
+  pub rows : after ≡ over (reading (length table) text .clauses) table

@@ -4,4 +4,5 @@ mod reader;
 
 pub use fault::Cause;
 pub use fault::Fault;
+pub use reader::MOST_BYTES;
 pub use reader::read;

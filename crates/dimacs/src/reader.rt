@@ -4,7 +4,8 @@ ghost use mathlib.Core.Path.{_≡_};
 ghost use lib.ListN.{length, drop};
 ghost use Rattle.cases.specs.Filing.{Opened};
 ghost use Rattle.lexer.specs.Text.{tokensFrom};
-ghost use Rattle.dimacs.specs.Reading.{reading, body, begun, over};
+ghost use Rattle.dimacs.specs.Denoting.{Reads};
+ghost use Rattle.dimacs.specs.Reading.{body, begun, over};
 ghost use Rattle.dimacs.specs.Steps.{Answers};
 use crate::fault::Cause;
 use crate::fault::CauseFromOpen;
@@ -18,13 +19,12 @@ use statements::Clause;
 use statements::LiteralSet;
 
 // How many bytes a text has at the most.
-const MOST_BYTES: usize = 16384;
+pub const MOST_BYTES: usize = 16384;
 
 // Files the clauses of the text into a new case, whose filing table is lent. A refusal names the byte; the clauses before it stay
 // in the table.
 pub fn read(text: &[u8], table: &mut [Clause]) -> Result<OpenCase, Fault>
-    ensures answer { λ r. ⌜ Answers (reading (length (now (table .entry))) (now (text .entry))) r ⌝ }
-    ensures rows { λ _. ⌜ now (table .exit) ≡ over (reading (length (now (table .entry))) (now (text .entry)) .clauses) (now (table .entry)) ⌝ }
+    ensures { λ r. ⌜ Reads (now (text .entry)) (now (table .entry)) (now (table .exit)) r ⌝ }
 {
     if text.len() > MOST_BYTES {
         return Err(Fault {

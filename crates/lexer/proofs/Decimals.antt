@@ -10,7 +10,7 @@ use lib.Dec.{eqb, leb, lit<}
 use lib.IntN.{ℤ, pos, negsuc, natAbs, _-ℤ_}
 use lib.ListN.{length, getD, drop, length-map}
 use Rattle.std.proofs.shelf.Lists.{drop-more, take-rest}
-use Rattle.std.proofs.shelf.Tests.{leb-true, le-leb, lt-leb, and-parts, and-from, and-left, and-right, eq-eqb, ne-eqb, cond-true, cond-false, cases-bool}
+use Rattle.std.proofs.shelf.Tests.{leb-true, and-parts, and-from, and-left, and-right, eq-eqb, ne-eqb, cond-true, cond-false, cases-bool}
 use Rattle.std.proofs.shelf.Digits.{number-lt}
 use Rattle.std.proofs.shelf.Signed.{ints}
 use mir.Syntax.{w32}
@@ -18,26 +18,21 @@ use mir.Val.{toZ, ofZ}
 use Rattle.std.specs.Text.{asciiDigit}
 use Rattle.std.specs.declared.option.Option.{Option}
 use Rattle.std.specs.declared.option.Option.the-variants.{Some, None}
-use Rattle.std.specs.shelf.Digits.{numberAfter, Under}
+use Rattle.std.specs.shelf.Digits.{Under}
 use Rattle.lexer.specs.Cuts.{part}
-use Rattle.lexer.specs.Numerals.{all-digits, decimal, numeralOf, plus, minus, numberOf}
+use Rattle.lexer.specs.Numerals.{all-digits, decimal, numeral-length, numeralOf, plus, minus, numberOf}
 
-pub numeral-empty : (bs : List ℕ) → length bs ≡ 0 → None ≡ numeralOf bs
+pub numeral-short : (bs : List ℕ) → numeral-length (length bs) ≡ false → None ≡ numeralOf bs
 unfolding numeralOf
-numeral-empty [] e = refl
-numeral-empty (b ∷ bs) e = absurd (omega arith)
-
-pub numeral-long : (bs : List ℕ) → 5 < length bs → None ≡ numeralOf bs
-unfolding numeralOf
-numeral-long bs h = sym (cond-false _ _ _ (and-left _ _ (and-right _ _ (lt-leb _ _ h))))
+numeral-short bs e = sym (cond-false _ _ _ (and-left _ _ e))
 
 pub numeral-stray : (bs : List ℕ) → all-digits bs ≡ false → None ≡ numeralOf bs
 unfolding numeralOf
 numeral-stray bs e = sym (cond-false _ _ _ (and-right _ _ e))
 
-pub numeral-is : (bs : List ℕ) → 1 ≤ length bs → length bs ≤ 5 → all-digits bs ≡ true → Some (decimal bs) ≡ numeralOf bs
+pub numeral-is : (bs : List ℕ) → numeral-length (length bs) ≡ true → all-digits bs ≡ true → Some (decimal bs) ≡ numeralOf bs
 unfolding numeralOf
-numeral-is bs some few e = sym (cond-true _ _ _ (and-from _ _ (and-from _ _ (le-leb _ _ some) (le-leb _ _ few)) e))
+numeral-is bs few e = sym (cond-true _ _ _ (and-from _ _ few e))
 
 -- the digits from a place on: one more, and a byte that is none
 pub digits-on : (bs : List ℕ) (i : ℕ) → i < length bs → asciiDigit (getD bs i 0) ≡ true → all-digits (drop i bs) ≡ all-digits (drop (i + 1) bs)
@@ -58,10 +53,10 @@ pub numeral-small : (bs : List ℕ) (v : ℕ) → numeralOf bs ≡ Some v → v 
 unfolding numeralOf
 numeral-small bs v e =
     let ds = map (λ b. b - 48) bs in
-    let test = leb 1 (length bs) && leb (length bs) 5 && all-digits bs in
+    let test = numeral-length (length bs) && all-digits bs in
     ⊎-elim
     (λ (h : test ≡ true).
-    let two = and-parts (leb 1 (length bs) && leb (length bs) 5) (all-digits bs) h in
+    let two = and-parts (numeral-length (length bs)) (all-digits bs) h in
     let few = leb-true (length bs) 5 (and-parts (leb 1 (length bs)) (leb (length bs) 5) (two .0) .1) in
     let is : Some (decimal bs) ≡ Some v = sym (cond-true test (Some (decimal bs)) None h) ∙ e in
     let same : decimal bs ≡ v = cc in
@@ -91,7 +86,7 @@ minus-small None small z e = let clash : _≡_ {A = ℕ} 0 1 = cc in absurd (ome
 minus-small (Some zero) small z e = let clash : _≡_ {A = ℕ} 0 1 = cc in absurd (omega arith)
 minus-small (Some (suc v)) small z e = let is : negsuc v ≡ z = cc in subst (λ y. natAbs y ≤ 99999) is (small (suc v) refl)
 
--- a number is worth at most 99999, and no less than that with a minus
+-- a number is at most 99999 away from 0
 pub number-small : (bs : List ℕ) (z : ℤ) → numberOf bs ≡ Some z → natAbs z ≤ 99999
 unfolding numberOf
 number-small [] z e = let clash : _≡_ {A = ℕ} 0 1 = cc in absurd (omega arith)

@@ -1,6 +1,6 @@
 pub mod Words
 pub mod Tokens
-pub mod Letters
-pub mod Lines
 pub mod Decimals
-pub mod Headlines
+mod Letters
+mod Lines
+mod Headlines

@@ -1,17 +1,16 @@
 -- The lines of a text, one after another. Assumes nothing.
-use mathlib.Core.Path.{_≡_, refl, sym, ap, _∙_}
-use mathlib.Core.Bool.{true, false, cond}
+use mathlib.Core.Path.{_≡_, sym, ap, _∙_}
+use mathlib.Core.Bool.{true, false}
 use mathlib.Core.List.{List, [], _∷_}
 use mathlib.Core.Logic.{⊎-elim}
-use Prim.Native.Nat.{ℕ, suc, _+_, _-_, _≤_, _<_}
+use Prim.Native.Nat.{ℕ, _+_, _-_, _≤_, _<_}
 use native.Mathlib.Omega.{arith}
-use lib.Dec.{eqb}
 use lib.ListN.{length, getD, take, drop}
 use lib.Seq.{length-take-le, drop-drop}
 use Rattle.std.proofs.shelf.Lists.{drop-more, drop-all}
 use Rattle.std.proofs.shelf.Tests.{cases-lt, cond-true, cond-false}
-use Rattle.std.specs.declared.option.Option.the-variants.{Some, None}
-use Rattle.lexer.specs.Text.{Piece, is-line-end, run, pieces, placed, linesFrom, tokens, tokensFrom}
+use Rattle.std.specs.declared.option.Option.the-variants.{None}
+use Rattle.lexer.specs.Text.{Piece, is-line-end, run, placed, linesFrom, tokens, tokensFrom}
 use Rattle.lexer.specs.Cuts.{part}
 use Rattle.lexer.specs.Headers.{begins-with, headed, HeaderAt}
 use Rattle.lexer.proofs.Words.{run-le, run-stops-at, run-inside, later, pieces-run}

@@ -3,16 +3,16 @@ use mathlib.Core.Path.{_≡_, refl, sym, ap, _∙_, subst}
 use mathlib.Core.Bool.{Bool, true, false, cond, not}
 use mathlib.Core.List.{List, [], _∷_}
 use mathlib.Core.Logic.{⊎-elim}
-use Prim.Native.Nat.{ℕ, suc, _+_, _-_, _≤_, _<_}
-use native.Mathlib.Nat.{add-zero, add-suc}
+use Prim.Native.Nat.{ℕ, zero, suc, _+_, _-_, _≤_, _<_, suc-le-suc}
+use native.Mathlib.Nat.{add-zero}
 use native.Mathlib.Omega.{arith}
 use lib.ListN.{length, getD, take, drop, length-drop}
 use lib.Seq.{length-take-le, drop-drop, getD-drop}
 use Rattle.std.proofs.shelf.Lists.{drop-more, drop-all}
-use Rattle.std.proofs.shelf.Tests.{cases-bool, not-true}
+use Rattle.std.proofs.shelf.Tests.{cases-bool}
 use Rattle.std.specs.Vec.{Every}
 use Rattle.lexer.specs.Text.{Piece, run, first-byte, pieces, placed, keep, solid, words}
-use Rattle.lexer.specs.Cuts.{part, FirstWord}
+use Rattle.lexer.specs.Cuts.{WordAt}
 use Rattle.lexer.specs.Headers.{last-byte}
 
 module _ (cuts : ℕ → Bool) where
@@ -33,15 +33,24 @@ module _ (cuts : ℕ → Bool) where
   run-again [] = refl
   run-again (b ∷ bs) = ⊎-elim (λ (e : cuts b ≡ true). simp e) (λ (e : cuts b ≡ false). simp e (run-again bs)) (cases-bool (cuts b))
 
-  -- the run from a place of a text: one byte on, at a byte that cuts, and past the end
-  pub run-on : (text : List ℕ) (i : ℕ) → i < length text → cuts (getD text i 0) ≡ false → run cuts (drop i text) ≡ suc (run cuts (drop (i + 1) text))
-  run-on text i h e = simp (drop-more text i 0 h, e)
+  run-front : (n : ℕ) (bs : List ℕ) → ((k : ℕ) → k < n → cuts (getD bs k 0) ≡ false) → n ≤ length bs → (n < length bs → cuts (getD bs n 0) ≡ true) → n ≡ run cuts bs
+  run-front n [] on h stop = omega arith
+  run-front zero (b ∷ bs) on h stop = let e = stop (omega arith) in simp e
+  run-front (suc n) (b ∷ bs) on h stop =
+      let e = on 0 (omega arith) in
+      simp e (ap suc (run-front n bs (λ k l. on (suc k) (suc-le-suc l)) (omega arith) (λ l. stop (suc-le-suc l))))
 
-  pub run-cut : (text : List ℕ) (i : ℕ) → i < length text → cuts (getD text i 0) ≡ true → run cuts (drop i text) ≡ 0
-  run-cut text i h e = simp (drop-more text i 0 h, e)
+  -- a loop that goes on from `from` while the bytes do not cut comes to the end of the run
+  pub run-is : (text : List ℕ) (from end : ℕ) → from ≤ end → end - from ≤ length text - from → ((k : ℕ) → from ≤ k → k < end → cuts (getD text k 0) ≡ false) → (end < length text → cuts (getD text end 0) ≡ true) → end ≡ from + run cuts (drop from text)
+  run-is text from end h inside on stop =
+      let n = end - from in
+      let back : from + n ≡ end = omega arith in
+      let reads = λ (k : ℕ). getD-drop from text k 0 in
+      let front : n ≡ run cuts (drop from text) = run-front n (drop from text) (λ k l. ap cuts (reads k) ∙ on (from + k) (omega arith) (omega arith)) (omega (arith, length-drop from text)) (λ l. ap cuts (reads n ∙ ap (λ i. getD text i 0) back) ∙ stop (omega (arith, length-drop from text))) in
+      omega arith
 
-  pub run-past : (text : List ℕ) (i : ℕ) → length text ≤ i → run cuts (drop i text) ≡ 0
-  run-past text i h = simp (drop-all i text h)
+  run-some : (text : List ℕ) (i : ℕ) → i < length text → cuts (getD text i 0) ≡ false → 0 < run cuts (drop i text)
+  run-some text i h e = simp (drop-more text i 0 h, e) (omega arith)
 
   -- the end of the run that begins at a place of a text
   pub run-inside : (text : List ℕ) (from end : ℕ) → from ≤ length text → end ≡ from + run cuts (drop from text) → end ≤ length text
@@ -134,7 +143,7 @@ module _ (cuts : ℕ → Bool) where
       let back = words-stop (at + suc m) (drop m bs) (run-again cuts bs) in
       front ∙ ap (λ ws. (at, b ∷ take m bs) ∷ ws) (sym back) ∙ simp e
 
-  words-from : (text : List ℕ) (from start : ℕ) → start ≡ from + run (λ b. not (cuts b)) (drop from text) → words cuts from (drop from text) ≡ words cuts start (drop start text)
+  pub words-from : (text : List ℕ) (from start : ℕ) → start ≡ from + run (λ b. not (cuts b)) (drop from text) → words cuts from (drop from text) ≡ words cuts start (drop start text)
   words-from text from start e =
       let r = run (λ b. not (cuts b)) (drop from text) in
       words-skip from (drop from text) ∙ ap (λ ds. words cuts (from + r) ds) (drop-drop r from text) ∙ ap (λ k. words cuts k (drop k text)) (sym e)
@@ -142,19 +151,17 @@ module _ (cuts : ℕ → Bool) where
   pub no-word : (text : List ℕ) (from start : ℕ) → start ≡ from + run (λ b. not (cuts b)) (drop from text) → length text ≤ start → words cuts from (drop from text) ≡ []
   no-word text from start e h = words-from text from start e ∙ ap (words cuts start) (drop-all start text h) ∙ words-none start
 
-  pub first-word : (text : List ℕ) (from start end : ℕ) → start ≡ from + run (λ b. not (cuts b)) (drop from text) → start < length text → end ≡ start + run cuts (drop start text) → FirstWord cuts text from start end
-  first-word text from start end s h e =
-      let letter : cuts (getD text start 0) ≡ false = not-true _ (run-stops-at (λ b. not (cuts b)) text from start s h) in
+  pub word-at : (text : List ℕ) (start end : ℕ) → end ≡ start + run cuts (drop start text) → start < length text → cuts (getD text start 0) ≡ false → WordAt cuts text start end
+  word-at text start end e h letter =
       let n = run cuts (drop start text) in
       let size : n ≡ end - start = omega arith in
       let P : List ℕ → Type 0 = λ bs. words cuts start bs ≡ (start, take (run cuts bs) bs) ∷ words cuts (start + run cuts bs) (drop (run cuts bs) bs) in
       let split : P (drop start text) = subst P (sym (drop-more text start 0 h)) (words-take start (getD text start 0) (drop (start + 1) text) letter) in
       record {
-        begins = s;
-        ends = e;
-        some = omega (arith, run-on cuts text start h letter);
+        some = omega (arith, run-some cuts text start h letter);
         inside = run-inside cuts text start end (omega arith) e;
-        split = words-from text from start s ∙ split ∙ ap (λ ds. (start, take n (drop start text)) ∷ words cuts (start + n) ds) (drop-drop n start text) ∙ ap (λ k. (start, take n (drop start text)) ∷ words cuts k (drop k text)) (sym e) ∙ ap (λ k. (start, take k (drop start text)) ∷ words cuts end (drop end text)) size;
+        ends = e;
+        split = split ∙ ap (λ ds. (start, take n (drop start text)) ∷ words cuts (start + n) ds) (drop-drop n start text) ∙ ap (λ k. (start, take n (drop start text)) ∷ words cuts k (drop k text)) (sym e) ∙ ap (λ k. (start, take k (drop start text)) ∷ words cuts end (drop end text)) size;
       }
 
   -- a word to the end of a text has no byte that cuts, and neither has its last byte

@@ -8,6 +8,7 @@ use Rattle.lexer.specs.Text.{is-line-end, is-blank, is-separator, run, words}
 use Rattle.lexer.specs.declared.pieces.Cut.{Cut}
 use Rattle.lexer.specs.declared.pieces.Cut.the-variants.{LineEnd, Blank, Space}
 
+-- the bytes of each kind of cut
 abbrev pub cutsAt : Cut → ℕ → Bool
 cutsAt LineEnd b = is-line-end b
 cutsAt Blank b = is-blank b
@@ -17,10 +18,17 @@ cutsAt Space b = is-separator b
 abbrev pub part : ℕ → ℕ → List ℕ → List ℕ
 part start end text = take (end - start) (drop start text)
 
--- the first word of a text at `from` or later stands from `start` to `end`, and the other words come after it
-pub record FirstWord (cuts : ℕ → Bool) (text : List ℕ) (from start end : ℕ) : Type 0 where
-  pub begins : start ≡ from + run (λ b. not (cuts b)) (drop from text)
-  pub ends : end ≡ start + run cuts (drop start text)
+-- a text has a word from `start` to `end`, and the other words from `start` on come after it
+pub record WordAt (cuts : ℕ → Bool) (text : List ℕ) (start end : ℕ) : Type 0 where
   pub some : start < end
   pub inside : end ≤ length text
+  pub ends : end ≡ start + run cuts (drop start text)
+  pub split : words cuts start (drop start text) ≡ (start, part start end text) ∷ words cuts end (drop end text)
+
+-- the first word of a text at `from` or later stands from `start` to `end`
+pub record FirstWord (cuts : ℕ → Bool) (text : List ℕ) (from start end : ℕ) : Type 0 where
+  pub begins : start ≡ from + run (λ b. not (cuts b)) (drop from text)
+  pub some : start < end
+  pub inside : end ≤ length text
+  pub ends : end ≡ start + run cuts (drop start text)
   pub split : words cuts from (drop from text) ≡ (start, part start end text) ∷ words cuts end (drop end text)

@@ -1,6 +1,6 @@
 -- The header line of a clause file, and what it says. Assumes nothing.
 use mathlib.Core.Path.{_≡_}
-use mathlib.Core.Bool.{Bool, false, cond, not, _&&_}
+use mathlib.Core.Bool.{Bool, false, cond, _&&_}
 use mathlib.Core.List.{List, [], _∷_}
 use Prim.Native.Nat.{ℕ, _≤_}
 use lib.Chars.{codes}
@@ -57,7 +57,7 @@ fieldsOf bs = cond (is-blank (last-byte bs)) None (fields (words is-blank 0 bs))
 unfoldable pub headerOf : List ℕ → Option Header
 headerOf bs = cond (begins-with 112 bs) (fieldsOf bs) None
 
--- the header line of a text stands from `start` to `end`, and its tokens are those of the text from `end` on
+-- the header line of a text stands from `start` to `end`, and the tokens after it are those of the text from `end` on
 pub record HeaderAt (text : List ℕ) (start end : ℕ) : Type 0 where
   pub after : List Piece
   pub first : headed (linesFrom 0 text) ≡ Some ((start, part start end text), after)

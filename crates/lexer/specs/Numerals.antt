@@ -18,15 +18,20 @@ all-digits (b ∷ bs) = asciiDigit b && all-digits bs
 abbrev pub decimal : List ℕ → ℕ
 decimal bs = number 10 (map (λ b. b - 48) bs)
 
+-- how many digits a numeral may have
+abbrev pub numeral-length : ℕ → Bool
+numeral-length n = leb 1 n && leb n 5
+
 -- a numeral is one to five digits
 unfoldable pub numeralOf : List ℕ → Option ℕ
-numeralOf bs = cond (leb 1 (length bs) && leb (length bs) 5 && all-digits bs) (Some (decimal bs)) None
+numeralOf bs = cond (numeral-length (length bs) && all-digits bs) (Some (decimal bs)) None
 
+-- a numeral's value, as an integer
 abbrev pub plus : Option ℕ → Option ℤ
 plus None = None
 plus (Some v) = Some (pos v)
 
--- there is no minus before 0
+-- a numeral's value after a minus, which does not stand before 0
 abbrev pub minus : Option ℕ → Option ℤ
 minus None = None
 minus (Some zero) = None

@@ -12,9 +12,11 @@ Piece = ℕ × List ℕ
 abbrev pub is-line-end : ℕ → Bool
 is-line-end b = eqb b 10
 
+-- what stands between the words of a header line
 abbrev pub is-blank : ℕ → Bool
 is-blank b = eqb b 32 || eqb b 9
 
+-- what stands between the tokens of a line
 abbrev pub is-space : ℕ → Bool
 is-space b = is-blank b || eqb b 13
 
@@ -27,6 +29,7 @@ abbrev pub run : (ℕ → Bool) → List ℕ → ℕ
 run cuts [] = 0
 run cuts (b ∷ bs) = cond (cuts b) 0 (suc (run cuts bs))
 
+-- pieces with one more byte before the first
 abbrev pub first-byte : ℕ → List (List ℕ) → List (List ℕ)
 first-byte b [] = (b ∷ []) ∷ []
 first-byte b (p ∷ ps) = (b ∷ p) ∷ ps

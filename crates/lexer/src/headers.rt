@@ -2,6 +2,7 @@
 ghost use mathlib.Core.Path.{_≡_};
 ghost use Prim.Native.Nat.{_≤_};
 ghost use lib.ListN.{length};
+ghost use lib.Dec.{eqb};
 ghost use Rattle.std.specs.Options.{Cases};
 ghost use Rattle.std.specs.Slices.{found};
 ghost use Rattle.std.specs.declared.option.Option.the-variants.{None};
@@ -21,7 +22,7 @@ pub struct Header {
     pub clauses: u32,
 }
 
-// What a line is, by its first letter: a comment begins with `c`, and a problem line, which is the header, with `p`.
+// What a line is, by its first letter: a comment begins with `c`, and a problem line, the only one that can be a header, with `p`.
 #[derive(Clone, Copy)]
 enum LineKind {
     Comment,
@@ -41,6 +42,13 @@ fn line_kind(line: &[u8]) -> LineKind
         'p' => LineKind::Problem,
         _ => LineKind::Other,
     }
+}
+
+// Whether nothing follows the word on its line.
+fn ends_line(word: Span, line: &[u8]) -> bool
+    ensures { λ r. ⌜ r ≡ eqb (word .end) (length (now (line .entry))) ⌝ }
+{
+    word.end == line.len()
 }
 
 impl Header {
@@ -63,7 +71,7 @@ impl Header {
         let format = next_word(line, letter.end, Cut::Blank)?;
         let points = next_word(line, format.end, Cut::Blank)?;
         let clauses = next_word(line, points.end, Cut::Blank)?;
-        if clauses.end != line.len() {
+        if !ends_line(clauses, line) {
             return None;
         }
         if &line[letter.start..letter.end] != b"p" || &line[format.start..format.end] != b"cnf" {

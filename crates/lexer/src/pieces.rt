@@ -1,14 +1,14 @@
 // A text cut into pieces at the bytes of one kind.
 ghost use mathlib.Core.Path.{_≡_};
-ghost use mathlib.Core.Bool.{not};
-ghost use Prim.Native.Nat.{_+_};
-ghost use lib.ListN.{drop};
+ghost use mathlib.Core.Bool.{true, false, not};
+ghost use Prim.Native.Nat.{_+_, _≤_, _<_};
+ghost use lib.ListN.{length, getD, drop};
 ghost use Rattle.std.specs.Options.{Cases};
 ghost use mathlib.Core.List.{[]};
 ghost use Rattle.lexer.specs.Text.{run, words};
-ghost use Rattle.lexer.specs.Cuts.{cutsAt, FirstWord};
+ghost use Rattle.lexer.specs.Cuts.{cutsAt, WordAt, FirstWord};
 
-// The bytes that cut a text: those that end a line, those between the words of a line, and those between the tokens of a text.
+// The bytes that cut a text: those between its lines, between the words of a header line, or between its tokens.
 #[derive(Clone, Copy)]
 pub enum Cut {
     LineEnd,
@@ -38,7 +38,10 @@ impl Cut {
 
 // Where the piece that begins at `from` ends: at the first byte that cuts, or at the end of the text.
 pub fn piece_end(text: &[u8], from: usize, cut: Cut) -> usize
-    ensures { λ r. ⌜ r ≡ from + run (cutsAt cut) (drop from (now (text .entry))) ⌝ }
+    ensures value { λ r. ⌜ r ≡ from + run (cutsAt cut) (drop from (now (text .entry))) ⌝ }
+    ensures inside { λ r. ⌜ (from ≤ length (now (text .entry)) → r ≤ length (now (text .entry))) ⌝ }
+    ensures stops { λ r. ⌜ (r < length (now (text .entry)) → cutsAt cut (getD (now (text .entry)) r 0) ≡ true) ⌝ }
+    ensures word { λ r. ⌜ (from < length (now (text .entry)) → cutsAt cut (getD (now (text .entry)) from 0) ≡ false → WordAt (cutsAt cut) (now (text .entry)) from r) ⌝ }
 {
     let mut end = from;
     while end < text.len() && !cut.cuts(text[end]) {
@@ -49,7 +52,11 @@ pub fn piece_end(text: &[u8], from: usize, cut: Cut) -> usize
 
 // Where the bytes that cut end, from `from` on: at the first other byte, or at the end of the text.
 pub fn skip(text: &[u8], from: usize, cut: Cut) -> usize
-    ensures { λ r. ⌜ r ≡ from + run (λ b. not (cutsAt cut b)) (drop from (now (text .entry))) ⌝ }
+    ensures value { λ r. ⌜ r ≡ from + run (λ b. not (cutsAt cut b)) (drop from (now (text .entry))) ⌝ }
+    ensures inside { λ r. ⌜ (from ≤ length (now (text .entry)) → r ≤ length (now (text .entry))) ⌝ }
+    ensures stops { λ r. ⌜ (r < length (now (text .entry)) → cutsAt cut (getD (now (text .entry)) r 0) ≡ false) ⌝ }
+    ensures rest { λ r. ⌜ words (cutsAt cut) from (drop from (now (text .entry))) ≡ words (cutsAt cut) r (drop r (now (text .entry))) ⌝ }
+    ensures none { λ r. ⌜ (length (now (text .entry)) ≤ r → words (cutsAt cut) from (drop from (now (text .entry))) ≡ []) ⌝ }
 {
     let mut start = from;
     while start < text.len() && cut.cuts(text[start]) {

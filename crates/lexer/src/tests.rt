@@ -37,7 +37,7 @@ fn headers() -> Result<(), Fail> {
         Header::parse(b"p\t cnf  00003 \t12345"),
         Some(Header {
             points: 3,
-            points_at: 9,
+            points_at: 8,
             clauses: 12345,
         }),
     )?;

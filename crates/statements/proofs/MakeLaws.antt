@@ -14,7 +14,7 @@ use Rattle.std.proofs.shelf.Lists.{take-more}
 use Rattle.std.proofs.shelf.Tests.{and-parts, and-from, and-left, and-right, or-cases, or-left, or-right, leb-true, le-leb, eqb-true, eq-eqb, cases-bool, cond-true, cond-false, both-ways, true≢false}
 use Rattle.std.proofs.shelf.Ways.{tells}
 use Rattle.std.specs.Options.{okOr}
-use Rattle.std.specs.Results.{Cases}
+use Rattle.std.specs.Results.{Cases, isErr}
 use Rattle.std.specs.declared.option.Option.{Option}
 use Rattle.std.specs.declared.option.Option.the-variants.{Some, None}
 use Rattle.std.specs.declared.result.Result.{Result}
@@ -23,7 +23,7 @@ use Rattle.points.specs.Sets.{member, none, single, joined, common, isEmpty}
 use Rattle.points.specs.declared.set.PointSet.{PointSet}
 use Rattle.points.proofs.Members.{member-none, member-single, member-joined, member-common, member-positive, same-members}
 use Rattle.points.proofs.Sizes.{some-member}
-use Rattle.statements.specs.Literals.{names, signed, sameNumber, listed, clear}
+use Rattle.statements.specs.Literals.{names, signed, sameNumber, listed, clear, bare}
 use Rattle.statements.specs.Making.{isLiteral, areLiterals, asserted, denied, allAsserted, allDenied, made, extended, makeRefusal}
 use Rattle.statements.specs.declared.fault.MakeFault.{MakeFault}
 use Rattle.statements.specs.declared.fault.MakeFault.the-variants.{Magnitude, Opposed}
@@ -31,7 +31,7 @@ use Rattle.points.specs.declared.point.Point.{Point}
 use Rattle.statements.specs.declared.literals.Literal.{Literal}
 use Rattle.statements.specs.declared.literals.Literal.the-variants.{Positive, Negative}
 use Rattle.statements.specs.declared.literals.LiteralSet.{LiteralSet}
-use Rattle.statements.proofs.LiteralLaws.{never-both, clear-none, clear-some}
+use Rattle.statements.proofs.LiteralLaws.{never-both, clear-none, clear-some, clear-parts}
 
 -- ---- joining sets
 
@@ -297,3 +297,45 @@ made-sorted zs y n r e f = ap thenClear (sym e ∙ f) ∙ then-made zs
 pub made-refused : (zs : List ℤ) (e : MakeFault) (r : Result (PointSet × PointSet) MakeFault) → r ≡ Err e → r ≡ sortedOf zs → Err e ≡ made zs
 unfolding thenClear
 made-refused zs e r g f = ap thenClear (sym g ∙ f) ∙ then-made zs
+
+-- ---- one number more at a time
+
+okOr-some : {X E : Type 0} (o : Option X) (e : E) (x : X) → okOr o e ≡ Ok x → o ≡ Some x
+okOr-some None e x h = absurd (true≢false (ap isErr h))
+okOr-some (Some y) e x h = cc
+
+pub record MadeOf (zs : List ℤ) (s : LiteralSet) : Type 0 where
+  pub are : areLiterals zs ≡ true
+  pub yes-is : s .yes ≡ allAsserted zs
+  pub no-is : s .no ≡ allDenied zs
+
+-- the points of a set that is made
+pub made-of-numbers : (zs : List ℤ) (s : LiteralSet) → made zs ≡ Ok s → MadeOf zs s
+unfolding made
+made-of-numbers zs s h = go (cases-bool (areLiterals zs))
+  where
+    go : (areLiterals zs ≡ true) ⊎ (areLiterals zs ≡ false) → MadeOf zs s
+    go (inl t) =
+        let parts = clear-parts (allAsserted zs) (allDenied zs) s
+                (okOr-some (clear (allAsserted zs) (allDenied zs)) Opposed s
+                (sym (cond-true (areLiterals zs) (okOr (clear (allAsserted zs) (allDenied zs)) Opposed) (Err Magnitude) t) ∙ h)) in
+        record { are = t; yes-is = parts .0; no-is = parts .1 }
+    go (inr f) =
+        absurd (true≢false (ap isErr (sym (cond-false (areLiterals zs) (okOr (clear (allAsserted zs) (allDenied zs)) Opposed) (Err Magnitude) f) ∙ h)))
+
+-- of no number the set of no literal is made
+pub made-none : made [] ≡ Ok bare
+unfolding made areLiterals allAsserted allDenied bare
+made-none = ap (λ (o : Option LiteralSet). okOr o Opposed) (clear-some bare)
+
+-- the last number comes to what is made of the others
+pub made-push : (zs : List ℤ) (z : ℤ) (s : LiteralSet) → made zs ≡ Ok s → isLiteral z ≡ true → made (zs ++ z ∷ []) ≡ extended s z
+unfolding made extended areLiterals
+made-push zs z s h lit =
+    let m = made-of-numbers zs s h in
+    let all : areLiterals (zs ++ z ∷ []) ≡ true =
+            literals-append zs (z ∷ []) ∙ and-from (areLiterals zs) (isLiteral z && true) (m .are) (and-from (isLiteral z) true lit refl) in
+    cond-true (areLiterals (zs ++ z ∷ [])) (okOr (clear (allAsserted (zs ++ z ∷ [])) (allDenied (zs ++ z ∷ []))) Opposed) (Err Magnitude) all
+    ∙ ap₂ (λ (y n : PointSet). okOr (clear y n) Opposed)
+    (asserted-push zs z ∙ ap (λ (t : PointSet). joined t (asserted z)) (sym (m .yes-is)))
+    (denied-push zs z ∙ ap (λ (t : PointSet). joined t (denied z)) (sym (m .no-is)))

@@ -1,3 +1,4 @@
+use mathlib.Core.List.{List, []}
 use mathlib.Core.Path.{_≡_, refl, sym, ap, subst, _∙_}
 use Prim.Native.Nat.{ℕ, _+_, _≤_}
 use native.Mathlib.Omega.{arith}
@@ -7,29 +8,40 @@ use Rattle.cases.specs.Refusals.{openRefusal}
 use Rattle.cases.specs.declared.fault.OpenFault.{OpenFault}
 use Rattle.cases.specs.declared.fault.OpenFault.the-variants.{Points}
 use Rattle.lexer.specs.Text.{tokensFrom}
-use Rattle.dimacs.specs.Reading.{Reading, begun, body, reading, over}
+use Rattle.statements.specs.declared.clause.Clause.{Clause}
+use Rattle.dimacs.specs.Denoting.{Reads}
+use Rattle.dimacs.specs.Reading.{Reading, refused, begun, body, reading, over}
 use Rattle.dimacs.specs.Steps.{Answers}
 use Rattle.dimacs.specs.declared.fault.Cause.{Cause}
-use Rattle.dimacs.specs.declared.fault.Cause.the-variants.{Open}
+use Rattle.dimacs.specs.declared.fault.Cause.the-variants.{Long, Header as BadHeader, Open}
+use Rattle.dimacs.proofs.AcceptLaws.{judged}
 use Rattle.dimacs.proofs.ReadLaws.{reading-long, reading-comments, reading-bad, reading-points, reading-body}
 use Rattle.dimacs.proofs.reader.read.Needs as need
+
+-- a refusal that files nothing
+refusal : (text : List ℕ) (table : List Clause) (e : Cause) (at : ℕ) → reading (length table) text ≡ refused [] e at
+    → Reads text table table (Err (record { cause = e; place = at }))
+refusal text table e at is =
+    let answer = ap (λ (x : Reading). x .answer) is in
+    let rows : table ≡ over (reading (length table) text .clauses) table = sym (ap (λ (x : Reading). over (x .clauses) table) is) in
+    record { answer = answer; judged = judged (length table) text table table (Err (record { cause = e; place = at })) answer rows; rows = rows }
 
 pub returns-then-text-gt-MOST-BYTES : need.returns-then-text-gt-MOST-BYTES
 returns-then-text-gt-MOST-BYTES c =
     let e = reading-long (length (c .args .table .now)) (c .args .text .now) (c .if-text-gt-MOST-BYTES .taken) in
-    record { answer = ap (λ (x : Reading). x .answer) e; rows = sym (ap (λ (x : Reading). over (x .clauses) (c .args .table .now)) e) }
+    refusal (c .args .text .now) (c .args .table .now) Long 16384 e
 
 pub returns-in-rest : need.returns-in-rest
 returns-in-rest c =
     let e = reading-comments (length (c .args .table .now)) (c .args .text .now) (c .if-text-gt-MOST-BYTES .left) (c .in-rest .ensures tt) in
-    record { answer = ap (λ (x : Reading). x .answer) e; rows = sym (ap (λ (x : Reading). over (x .clauses) (c .args .table .now)) e) }
+    refusal (c .args .text .now) (c .args .table .now) BadHeader (length (c .args .text .now)) e
 
 pub returns-in-rest-parse : need.returns-in-rest-parse
 returns-in-rest-parse c =
     let e =
             reading-bad (length (c .args .table .now)) (c .args .text .now) (c .if-text-gt-MOST-BYTES .left) (c .in-Some .field-0 .start) (c .in-Some .field-0 .end) (c .in-Some .ensures tt)
             (sym (c .in-rest-parse .ensures tt .value)) in
-    record { answer = ap (λ (x : Reading). x .answer) e; rows = sym (ap (λ (x : Reading). over (x .clauses) (c .args .table .now)) e) }
+    refusal (c .args .text .now) (c .args .table .now) BadHeader (c .in-Some .field-0 .start) e
 
 pub returns-in-Ok : need.returns-in-Ok
 returns-in-Ok c =
@@ -45,10 +57,9 @@ returns-in-Ok c =
             ∙ sym
                 (reading-body (length table) text (c .if-text-gt-MOST-BYTES .left) start end (c .in-Some .ensures tt) d (sym (c .in-Some-parse .ensures tt .value))
                 (omega (arith, points, case .some)) (omega (arith, points, case .few))) in
-    record {
-      answer = subst (λ (x : Reading). Answers x (c .read-body .result)) e (c .read-body .ensures .answer);
-      rows = c .read-body .ensures .rows ∙ ap (λ (x : Reading). over (x .clauses) table) e;
-    }
+    let answer = subst (λ (x : Reading). Answers x (c .read-body .result)) e (c .read-body .ensures .answer) in
+    let rows = c .read-body .ensures .rows ∙ ap (λ (x : Reading). over (x .clauses) table) e in
+    record { answer = answer; judged = judged (length table) text table (c .read-body .last .table) (c .read-body .result) answer rows; rows = rows }
 
 -- an opening is refused for the number of points alone
 refused-points : (e : OpenFault) (n : ℕ) → openRefusal e .1 n → (e ≡ Points) × (1 ≤ n → n ≤ 64 → ⊥)
@@ -62,7 +73,5 @@ returns-in-Err c =
     let e =
             reading-points (length (c .args .table .now)) (c .args .text .now) (c .if-text-gt-MOST-BYTES .left) start (c .in-Some .field-0 .end) (c .in-Some .ensures tt) d
             (sym (c .in-Some-parse .ensures tt .value)) (why .1) in
-    record {
-      answer = ap (λ (x : Reading). x .answer) e ∙ ap (λ (x : Cause). Err (record { cause = x; place = start + d .«points_at» })) (sym (c .into .ensures ∙ ap Open (why .0)));
-      rows = sym (ap (λ (x : Reading). over (x .clauses) (c .args .table .now)) e);
-    }
+    refusal (c .args .text .now) (c .args .table .now) (c .into .result) (start + d .«points_at»)
+    (e ∙ ap (λ (x : Cause). refused [] x (start + d .«points_at»)) (sym (c .into .ensures ∙ ap Open (why .0))))

@@ -1,4 +1,5 @@
 mod calls;
+mod counts;
 
 ghost use Prim.Native.Nat.{_≤_};
 

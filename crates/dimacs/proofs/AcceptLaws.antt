@@ -101,6 +101,7 @@ module _ (xs : List ℤ) (y : ℤ) (ys : List ℤ) (s target : LiteralSet) (befo
           (made-names (xs ++ y ∷ ys) target all (negℤ y)
           ∙ listed-append xs (y ∷ ys) (negℤ y)
           ∙ or-left (listed xs (negℤ y)) (listed (y ∷ ys) (negℤ y)) (sym (made-names xs s before (negℤ y)) ∙ h))
+
       go : (r : Result LiteralSet MakeFault) → extended s y ≡ r → (t : LiteralSet) × (extended s y ≡ Ok t)
       go (Ok t) e = (t, e)
       go (Err e) f = absurd (denied (subst (Extended s y) f (extended-law s y inner-literal) .1))
@@ -138,7 +139,7 @@ ok-same h = cc
 module _ (n announced rows end : ℕ) (room : announced ≤ usable rows) where
   abbrev Runs : List ℤ → List Clause → Type 0
   Runs numbers cs = (ts : List Piece) → numbersOf ts ≡ Some numbers → OnPoints n cs → (filed : List Clause) → length filed + length cs ≡ announced
-    → body n announced rows end ts (record { filed = filed; pending = bare }) ≡ accepted (filed ++ cs) n
+      → body n announced rows end ts (record { filed = filed; pending = bare }) ≡ accepted (filed ++ cs) n
 
   runs-nothing : Runs [] []
   unfolding body

@@ -85,6 +85,7 @@ module _ (n announced rows end : ℕ) where
       whole : (zs ≡ []) ⊎ (length (st .filed) < announced) → length (st .filed) ≡ announced → zs ≡ []
       whole (inl e) f = e
       whole (inr l) f = absurd (let x : length (st .filed) < length (st .filed) = omega arith in omega arith)
+
       ok-same : _≡_ {A = Result ℕ Fault} (Ok n) (Ok m) → m ≡ n
       ok-same e = cc
   at-end st zs p m (inr f) h =
@@ -98,13 +99,13 @@ module _ (n announced rows end : ℕ) where
   at-token t ts on st zs p m (literal z s under is lit low e) h =
       let law : (w : ℤ) → names s w ≡ (names (st .pending) w || sameNumber w z) = subst (Extended (st .pending) z) e (extended-law (st .pending) z lit) in
       let r = on (record { filed = st .filed; pending = s }) (zs ++ z ∷ [])
-              (record {
-                group = made-push zs z (st .pending) (p .group) lit ∙ e;
-                known = added-last (st .pending) s z n law (p .known) low;
-                unfinished = inr under;
-                room = p .room;
-              })
-              m h in
+      (record {
+        group = made-push zs z (st .pending) (p .group) lit ∙ e;
+        known = added-last (st .pending) s z n law (p .known) low;
+        unfinished = inr under;
+        room = p .room;
+      })
+      m h in
       record {
         numbers = z ∷ r .numbers;
         cs = r .cs;
@@ -119,13 +120,13 @@ module _ (n announced rows end : ℕ) where
   at-token t ts on st zs p m (finish under is free) h =
       let c = clauseOf (st .pending) in
       let r = on (record { filed = st .filed ++ c ∷ []; pending = bare }) []
-              (record {
-                group = made-none;
-                known = omega (arith, bare-last);
-                unfinished = inl refl;
-                room = omega (arith, length-append (st .filed) (c ∷ []));
-              })
-              m h in
+      (record {
+        group = made-none;
+        known = omega (arith, bare-last);
+        unfinished = inl refl;
+        room = omega (arith, length-append (st .filed) (c ∷ []));
+      })
+      m h in
       record {
         numbers = pos 0 ∷ r .numbers;
         cs = c ∷ r .cs;
@@ -155,14 +156,16 @@ module _ (rows : ℕ) (text : List ℕ) (m : ℕ) where
     where
       all : Reading
       all = body (d .points) (d .clauses) rows (length text) (tokens after) begun
+
       bad : Reading
       bad = refused [] (Open Points) (line .0 + d .«points_at»)
+
       accept : (leb 1 (d .points) && leb (d .points) 64) ≡ true → body (d .points) (d .clauses) rows (length text) (tokens after) begun .answer ≡ Ok m
           → Case rows text m (body (d .points) (d .clauses) rows (length text) (tokens after) begun .clauses)
       accept t k =
           let b = and-parts (leb 1 (d .points)) (leb (d .points) 64) t in
           let r = reads (d .points) (d .clauses) rows (length text) (tokens after) begun []
-                  (record { group = made-none; known = omega (arith, bare-last); unfinished = inl refl; room = omega arith }) m k in
+          (record { group = made-none; known = omega (arith, bare-last); unfinished = inl refl; room = omega arith }) m k in
           let same = r .clauses in
           record {
             short = short;
@@ -176,12 +179,13 @@ module _ (rows : ℕ) (text : List ℕ) (m : ℕ) where
               numbers = r .numbers;
               first = first;
               announces =
-                e ∙ ap₂ (λ (p k : ℕ). Some (record { points = p; «points_at» = d .«points_at»; clauses = k })) (sym (r .points)) (sym (r .count));
+                  e ∙ ap₂ (λ (p k : ℕ). Some (record { points = p; «points_at» = d .«points_at»; clauses = k })) (sym (r .points)) (sym (r .count));
               writes = r .writes;
               spells = subst (Spells (r .numbers)) (sym (r .clauses)) (r .spells);
               known = subst (OnPoints m) (sym (r .clauses)) (subst (λ (p : ℕ). OnPoints p (r .cs)) (sym (r .points)) (r .known));
             };
           }
+
       go : ((leb 1 (d .points) && leb (d .points) 64) ≡ true) ⊎ ((leb 1 (d .points) && leb (d .points) 64) ≡ false)
           → Case rows text m (fromHeader rows (length text) (line .0) after (Some d) .clauses)
       go (inl t) =
@@ -201,6 +205,7 @@ module _ (rows : ℕ) (text : List ℕ) (m : ℕ) where
     where
       good : Reading
       good = fromLine rows (length text) (headed (linesFrom 0 text))
+
       go : (leb (length text) 16384 ≡ true) ⊎ (leb (length text) 16384 ≡ false) → Case rows text m (cond (leb (length text) 16384) good (refused [] Long 16384) .clauses)
       go (inl t) =
           let is = cond-true (leb (length text) 16384) good (refused [] Long 16384) t in

@@ -1,5 +1,9 @@
 pub mod AcceptLaws
 pub mod DenoteLaws
+pub mod PlainClauses
+pub mod PlainLaws
+pub mod PlainNumbers
+pub mod PlainWords
 pub mod ReadLaws
 pub mod StepLaws
 pub mod TokenViews

@@ -91,8 +91,7 @@ pub at-end : (n announced rows end : ℕ) (s : Reader) (now : List Clause) (r : 
     → Finishes s end r → Answers (atEnd n announced rows end (progress s now)) r × (atEnd n announced rows end (progress s now) .clauses ≡ progress s now .filed)
 at-end n announced rows end s now (Ok c) ready points noted count (e, same) =
     let full : eqb (length (progress s now .filed)) announced ≡ true = eq-eqb (length (progress s now .filed)) announced (filed-count s now ready ∙ e ∙ count) in
-    let all : atEnd n announced rows end (progress s now) ≡ accepted (progress s now .filed) n = cond-true (eqb (length (progress s now .filed)) announced) (accepted (progress s now .filed) n) (refused (progress s now .filed) Count end) full in
-    (
+    let all : atEnd n announced rows end (progress s now) ≡ accepted (progress s now .filed) n = cond-true (eqb (length (progress s now .filed)) announced) (accepted (progress s now .filed) n) (refused (progress s now .filed) Count end) full in (
       (
         ap (λ (x : Reading). x .answer) all ∙ ap Ok (sym points ∙ sym (ap (λ (d : OpenCase). d .points) same)),
         ap (λ (d : OpenCase). d .filed) same ∙ sym (filed-count s now ready) ∙ sym (ap (λ (x : Reading). length (x .clauses)) all),

@@ -46,33 +46,41 @@ bare-last = refl
 pub ended : (r s : Reader) (table after : List Clause) (number : ℕ) → Ready r table
     → Accepted clauseCore (r .case) table (clauseOf (r .literals)) (s .case) after number → s .announced ≡ r .announced → s .literals ≡ bare
     → (endToken (length table) (progress r table) ≡ Ok (progress s after)) × Steady r s × Ready s after
-      × (drop (s .case .filed) after ≡ drop (s .case .filed) table) × (length after ≡ length table)
+    × (drop (s .case .filed) after ≡ drop (s .case .filed) table) × (length after ≡ length table)
 ended r s table after number ready a same fresh = (step, steady, next, rest, long)
   where
     count : length (take (r .case .filed) table) ≡ r .case .filed
     count = length-take (r .case .filed) table ∙ omega (arith, ready .rows)
+
     inside : r .case .filed < length table
     inside = omega (arith, a .free)
+
     long : length after ≡ length table
     long = ap length (a .written) ∙ length-set table (r .case .filed) (clauseOf (r .literals))
+
     filed : take (s .case .filed) after ≡ take (r .case .filed) table ++ clauseOf (r .literals) ∷ []
     filed =
         ap₂ (λ (n : ℕ) (t : List Clause). take n t) (a .one-more) (a .written)
         ∙ take-more-set table (r .case .filed) (clauseOf (r .literals)) inside
+
     free : ltb (length (take (r .case .filed) table)) (usable (length table)) ≡ true
     free = lt-ltb (length (take (r .case .filed) table)) (usable (length table)) (omega (arith, count, a .free))
+
     step : endToken (length table) (progress r table) ≡ Ok (progress s after)
     step =
         cond-true (ltb (length (take (r .case .filed) table)) (usable (length table)))
         (Ok (record { filed = take (r .case .filed) table ++ clauseOf (r .literals) ∷ []; pending = bare })) (Err (File Full)) free
         ∙ ap₂ (λ (cs : List Clause) (l : LiteralSet). Ok (record { filed = cs; pending = l })) (sym filed) (sym fresh)
+
     steady : Steady r s
     steady = record { points = a .same-points; noted = a .same-note; announced = same; grows = omega (arith, a .one-more) }
+
     next : Ready s after
     next = record {
       rows = omega (arith, a .one-more, long, inside);
       known = omega (arith, ap (λ (l : LiteralSet). greatest (named (clauseOf l))) fresh ∙ bare-last);
     }
+
     rest : drop (s .case .filed) after ≡ drop (s .case .filed) table
     rest = ap (drop (s .case .filed)) (a .written) ∙ drop-set-lt (s .case .filed) table (r .case .filed) (clauseOf (r .literals)) (omega (arith, a .one-more))
 
@@ -96,6 +104,7 @@ added-last s t z n law old new = greatest-below (named (clauseOf t)) n bound
     side : (w : ℤ) → (names s w ≡ true) ⊎ (sameNumber w z ≡ true) → pointOf w ≤ n
     side w (inl h) = omega (arith, member-last (named (clauseOf s)) (pointOf w) (names-point (clauseOf s) w h))
     side w (inr h) = omega (arith, ap pointOf (same-number w z h), point-size z)
+
     bound : (p : ℕ) → member (named (clauseOf t)) p ≡ true → p ≤ n
     bound p m =
         let l = named-literal (clauseOf t) p m in
@@ -171,3 +180,8 @@ pub same-step : (step other : Progress → Result Progress Cause) {U : Type 0} (
     → other (progress r table) ≡ step (progress r table) → Steps step r table s after result → Steps other r table s after result
 same-step step other r s table after (Ok u) is h = (is ∙ h .0, h .1, h .2, h .3, h .4)
 same-step step other r s table after (Err e) is h = (is ∙ h .0, h .1)
+
+-- a refused step leaves the table
+pub refused-step : (step : Progress → Result Progress Cause) (U : Type 0) (r : Reader) (table : List Clause) (e : Cause) → step (progress r table) ≡ Err e
+    → Steps step {U = U} r table r table (Err e)
+refused-step step U r table e h = (h, refl)

@@ -23,7 +23,7 @@ use Rattle.dimacs.proofs.StepLaws.{filed-count}
 -- the reader r, which began with `table` at `from`, has come to s and `now` at `at`
 pub record Walked (text : List ℕ) (from at : ℕ) (r : Reader) (table : List Clause) (s : Reader) (now : List Clause) : Type 0 where
   pub same : body (r .case .points) (r .announced) (length table) (length text) (tokensFrom from (drop from text)) (progress r table)
-    ≡ body (r .case .points) (r .announced) (length table) (length text) (tokensFrom at (drop at text)) (progress s now)
+      ≡ body (r .case .points) (r .announced) (length table) (length text) (tokensFrom at (drop at text)) (progress s now)
   pub steady : Steady r s
   pub ready : Ready s now
   pub rest : drop (s .case .filed) now ≡ drop (s .case .filed) table
@@ -51,13 +51,13 @@ module _ (text : List ℕ) (from at : ℕ) (r : Reader) (table : List Clause) (s
   -- the definition at the next token, with the reader's own numbers
   next : (start end : ℕ) → FirstWord (cutsAt Space) text at start end
       → body (r .case .points) (r .announced) (length table) (length text) (tokensFrom at (drop at text)) (progress s now)
-        ≡ goOn (r .case .points) (r .announced) (length table) (length text)
-          (body (r .case .points) (r .announced) (length table) (length text) (tokensFrom end (drop end text))) (progress s now .filed) start
-          (token (s .case .points) (s .announced) (length now) (progress s now) (part start end text))
+      ≡ goOn (r .case .points) (r .announced) (length table) (length text)
+      (body (r .case .points) (r .announced) (length table) (length text) (tokensFrom end (drop end text))) (progress s now .filed) start
+      (token (s .case .points) (s .announced) (length now) (progress s now) (part start end text))
   unfolding body
   next start end f =
       let go : Result Progress Cause → Reading = goOn (r .case .points) (r .announced) (length table) (length text)
-              (body (r .case .points) (r .announced) (length table) (length text) (tokensFrom end (drop end text))) (progress s now .filed) start in
+      (body (r .case .points) (r .announced) (length table) (length text) (tokensFrom end (drop end text))) (progress s now .filed) start in
       ap (λ (ts : List Piece). body (r .case .points) (r .announced) (length table) (length text) ts (progress s now)) (first-token text at start end f)
       ∙ ap (λ (n : ℕ). go (token n (r .announced) (length table) (progress s now) (part start end text))) (sym (w .steady .points))
       ∙ ap (λ (n : ℕ). go (token (s .case .points) n (length table) (progress s now) (part start end text))) (sym (w .steady .announced))
@@ -68,9 +68,9 @@ module _ (text : List ℕ) (from at : ℕ) (r : Reader) (table : List Clause) (s
       → Walked text from end r table t after
   walked-more u start end t after f (e, steady, ready, rest, long) = record {
     same =
-      w .same
-      ∙ next start end f
-      ∙ ap (goOn (r .case .points) (r .announced) (length table) (length text)
+        w .same
+        ∙ next start end f
+        ∙ ap (goOn (r .case .points) (r .announced) (length table) (length text)
         (body (r .case .points) (r .announced) (length table) (length text) (tokensFrom end (drop end text))) (progress s now .filed) start) e;
     steady = record {
       points = steady .points ∙ w .steady .points;
@@ -94,21 +94,20 @@ module _ (text : List ℕ) (from at : ℕ) (r : Reader) (table : List Clause) (s
   pub walked-refused : (U : Type 0) (rest : Progress → Reading) (e : Cause) (start end : ℕ) (t : Reader) (after : List Clause) → FirstWord (cutsAt Space) text at start end
       → Steps (λ st. token (s .case .points) (s .announced) (length now) st (part start end text)) {U = U} s now t after (Err e)
       → Walks {U = U} (body (r .case .points) (r .announced) (length table) (length text) (tokensFrom from (drop from text))) rest r table t after
-        (Err (record { cause = e; place = start }))
+      (Err (record { cause = e; place = start }))
   walked-refused U rest e start end t after f (h, same) =
       let all =
-              w .same
-              ∙ next start end f
-              ∙ ap (goOn (r .case .points) (r .announced) (length table) (length text)
-                (body (r .case .points) (r .announced) (length table) (length text) (tokensFrom end (drop end text))) (progress s now .filed) start) h in
-      (
+      w .same
+      ∙ next start end f
+      ∙ ap (goOn (r .case .points) (r .announced) (length table) (length text)
+      (body (r .case .points) (r .announced) (length table) (length text) (tokensFrom end (drop end text))) (progress s now .filed) start) h in (
         ap (λ (x : Reading). x .answer) all,
         same ∙ written s table now (w .ready) (w .rest) ∙ ap (λ (x : Reading). over (x .clauses) table) (sym all),
       )
 
   pub walked-all : {U : Type 0} (u : U) → words (cutsAt Space) at (drop at text) ≡ []
       → Walks {U = U} (body (r .case .points) (r .announced) (length table) (length text) (tokensFrom from (drop from text)))
-        (atEnd (r .case .points) (r .announced) (length table) (length text)) r table s now (Ok u)
+      (atEnd (r .case .points) (r .announced) (length table) (length text)) r table s now (Ok u)
   unfolding body
   walked-all u none = (
     w .same ∙ ap (λ (ts : List Piece). body (r .case .points) (r .announced) (length table) (length text) ts (progress s now)) (no-token text at none),

@@ -1,10 +1,11 @@
+mod lower;
 mod number;
 
 use cases::FileFault;
 use cases::OpenFault;
-pub use number::CauseFromFile;
-pub use number::CauseFromMake;
-pub use number::CauseFromOpen;
+pub use lower::CauseFromFile;
+pub use lower::CauseFromMake;
+pub use lower::CauseFromOpen;
 use statements::MakeFault;
 
 // Why a text is refused.

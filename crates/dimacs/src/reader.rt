@@ -5,6 +5,7 @@ ghost use lib.ListN.{length, drop};
 ghost use Rattle.cases.specs.Filing.{Opened};
 ghost use Rattle.lexer.specs.Text.{tokensFrom};
 ghost use Rattle.dimacs.specs.Denoting.{Reads};
+ghost use Rattle.dimacs.specs.Plain.{ReadsBack, Example};
 ghost use Rattle.dimacs.specs.Reading.{body, begun, over};
 ghost use Rattle.dimacs.specs.Steps.{Answers};
 use crate::fault::Cause;
@@ -24,7 +25,9 @@ pub const MOST_BYTES: usize = 16384;
 // Files the clauses of the text into a new case, whose filing table is lent. A refusal names the byte; the clauses before it stay
 // in the table.
 pub fn read(text: &[u8], table: &mut [Clause]) -> Result<OpenCase, Fault>
-    ensures { λ r. ⌜ Reads (now (text .entry)) (now (table .entry)) (now (table .exit)) r ⌝ }
+    ensures reads { λ r. ⌜ Reads (now (text .entry)) (now (table .entry)) (now (table .exit)) r ⌝ }
+    ensures back { λ _. ⌜ ReadsBack ⌝ }
+    ensures example { λ _. ⌜ Example ⌝ }
 {
     if text.len() > MOST_BYTES {
         return Err(Fault {
@@ -57,7 +60,13 @@ pub fn read(text: &[u8], table: &mut [Clause]) -> Result<OpenCase, Fault>
 }
 
 // Files the clauses of the tokens from `from` on into the new case.
-fn read_body(case: OpenCase, announced: usize, text: &[u8], from: usize, table: &mut [Clause]) -> Result<OpenCase, Fault>
+fn read_body(
+    case: OpenCase,
+    announced: usize,
+    text: &[u8],
+    from: usize,
+    table: &mut [Clause],
+) -> Result<OpenCase, Fault>
     requires { ⌜ Opened (case .points) case ⌝ }
     ensures answer { λ r. ⌜ Answers (body (case .points) announced (length (now (table .entry))) (length (now (text .entry))) (tokensFrom from (drop from (now (text .entry)))) begun) r ⌝ }
     ensures rows { λ _. ⌜ now (table .exit) ≡ over (body (case .points) announced (length (now (table .entry))) (length (now (text .entry))) (tokensFrom from (drop from (now (text .entry)))) begun .clauses) (now (table .entry)) ⌝ }

@@ -180,7 +180,6 @@ kept : (x e : Bool) → x ≡ true → e ≡ false → (x && not e) ≡ true
 kept x e h k = and-from x (not e) h (not-from-false e k)
 
 pub resolves : (s t r : LiteralSet) (p : ℕ) → opposed s t p ≡ true → resolvent s t p ≡ Some r → Resolves s t r p
-unfolding resolvent
 resolves s t r p op e = record { keeps = keeps; only = only }
   where
     range : (member (s .yes) p && member (t .no) p ≡ true) ⊎ (member (s .no) p && member (t .yes) p ≡ true) → (1 ≤ p) × (p ≤ 64)

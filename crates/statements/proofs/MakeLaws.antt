@@ -317,8 +317,8 @@ made-of-numbers zs s h = go (cases-bool (areLiterals zs))
     go : (areLiterals zs ≡ true) ⊎ (areLiterals zs ≡ false) → MadeOf zs s
     go (inl t) =
         let parts = clear-parts (allAsserted zs) (allDenied zs) s
-                (okOr-some (clear (allAsserted zs) (allDenied zs)) Opposed s
-                (sym (cond-true (areLiterals zs) (okOr (clear (allAsserted zs) (allDenied zs)) Opposed) (Err Magnitude) t) ∙ h)) in
+        (okOr-some (clear (allAsserted zs) (allDenied zs)) Opposed s
+        (sym (cond-true (areLiterals zs) (okOr (clear (allAsserted zs) (allDenied zs)) Opposed) (Err Magnitude) t) ∙ h)) in
         record { are = t; yes-is = parts .0; no-is = parts .1 }
     go (inr f) =
         absurd (true≢false (ap isErr (sym (cond-false (areLiterals zs) (okOr (clear (allAsserted zs) (allDenied zs)) Opposed) (Err Magnitude) f) ∙ h)))
@@ -334,7 +334,7 @@ unfolding made extended areLiterals
 made-push zs z s h lit =
     let m = made-of-numbers zs s h in
     let all : areLiterals (zs ++ z ∷ []) ≡ true =
-            literals-append zs (z ∷ []) ∙ and-from (areLiterals zs) (isLiteral z && true) (m .are) (and-from (isLiteral z) true lit refl) in
+    literals-append zs (z ∷ []) ∙ and-from (areLiterals zs) (isLiteral z && true) (m .are) (and-from (isLiteral z) true lit refl) in
     cond-true (areLiterals (zs ++ z ∷ [])) (okOr (clear (allAsserted (zs ++ z ∷ [])) (allDenied (zs ++ z ∷ []))) Opposed) (Err Magnitude) all
     ∙ ap₂ (λ (y n : PointSet). okOr (clear y n) Opposed)
     (asserted-push zs z ∙ ap (λ (t : PointSet). joined t (asserted z)) (sym (m .yes-is)))

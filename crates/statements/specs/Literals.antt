@@ -59,5 +59,5 @@ abbrev pub opposed : LiteralSet → LiteralSet → ℕ → Bool
 opposed a b p = member (a .yes) p && member (b .no) p || member (a .no) p && member (b .yes) p
 
 -- all literals of the two but those on p, if no point is then named both ways
-unfoldable pub resolvent : LiteralSet → LiteralSet → ℕ → Option LiteralSet
+abbrev pub resolvent : LiteralSet → LiteralSet → ℕ → Option LiteralSet
 resolvent a b p = clear (without (joined (a .yes) (b .yes)) (single p)) (without (joined (a .no) (b .no)) (single p))

@@ -28,20 +28,6 @@ impl OpenCase {
         })
     }
 
-    // The number of points.
-    pub fn points(&self) -> u32
-        ensures { λ r. ⌜ r ≡ now (self .entry) .points ⌝ }
-    {
-        self.points
-    }
-
-    // How many statements are filed.
-    pub fn filed(&self) -> usize
-        ensures { λ r. ⌜ r ≡ now (self .entry) .filed ⌝ }
-    {
-        self.filed
-    }
-
     // Whether the case has the point `last`; refused where it is beyond the points of the case.
     pub fn admit(&self, last: u32) -> Result<(), FileFault>
         ensures { λ r. ⌜ Cases r (λ _. last ≤ now (self .entry) .points) (λ e. (e ≡ Beyond) × (now (self .entry) .points < last)) ⌝ }

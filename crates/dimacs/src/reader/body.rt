@@ -22,15 +22,20 @@ use statements::LiteralSet;
 
 // A case that is being read: how many clauses are announced, and the literals of the clause that is not finished.
 #[derive(Drop)]
-pub struct Reader {
-    pub case: OpenCase,
-    pub announced: usize,
-    pub literals: LiteralSet,
+pub(crate) struct Reader {
+    pub(crate) case: OpenCase,
+    pub(crate) announced: usize,
+    pub(crate) literals: LiteralSet,
 }
 
 impl Reader {
     // Takes each token of the text from `from` on. A fault names the place of the token's first byte.
-    pub fn tokens(&mut self, text: &[u8], from: usize, table: &mut [Clause]) -> Result<(), Fault>
+    pub(crate) fn tokens(
+        &mut self,
+        text: &[u8],
+        from: usize,
+        table: &mut [Clause],
+    ) -> Result<(), Fault>
         requires { ⌜ Ready (now self) (now table) ⌝ }
         ensures { λ r. ⌜ Walks (body (now (self .entry) .case .points) (now (self .entry) .announced) (length (now (table .entry))) (length (now (text .entry))) (tokensFrom from (drop from (now (text .entry))))) (atEnd (now (self .entry) .case .points) (now (self .entry) .announced) (length (now (table .entry))) (length (now (text .entry)))) (now (self .entry)) (now (table .entry)) (now (self .exit)) (now (table .exit)) r ⌝ }
     {
@@ -48,7 +53,7 @@ impl Reader {
     }
 
     // Takes one token: a 0 ends the clause, any other number is a literal of it.
-    pub fn token(&mut self, bytes: &[u8], table: &mut [Clause]) -> Result<(), Cause>
+    pub(crate) fn token(&mut self, bytes: &[u8], table: &mut [Clause]) -> Result<(), Cause>
         requires { ⌜ Ready (now self) (now table) ⌝ }
         ensures { λ r. ⌜ Steps (λ st. token (now (self .entry) .case .points) (now (self .entry) .announced) (length (now (table .entry))) st (now (bytes .entry))) (now (self .entry)) (now (table .entry)) (now (self .exit)) (now (table .exit)) r ⌝ }
     {
@@ -87,7 +92,7 @@ impl Reader {
     }
 
     // The case, where each announced clause is filed; refused at the end of the text where one is not.
-    pub fn finish(self, end: usize) -> Result<OpenCase, Fault>
+    pub(crate) fn finish(self, end: usize) -> Result<OpenCase, Fault>
         ensures { λ r. ⌜ Finishes self end r ⌝ }
     {
         let Reader {

@@ -1,20 +1,19 @@
-ghost use mathlib.Core.Bool.{false, _||_};
+ghost use mathlib.Core.Bool.{_||_};
 ghost use mathlib.Core.Path.{_≡_};
 ghost use Prim.Native.Nat.{ℕ};
 ghost use lib.Dec.{eqb};
 ghost use Rattle.points.specs.Assignments.{says};
+ghost use Rattle.points.specs.Sets.{member};
 use super::Assignment;
 use crate::point::Point;
 use crate::set::PointSet;
 
 impl Assignment {
-    // No to every point.
-    pub fn all_no() -> Assignment
-        ensures { λ r. ⌜ ((p : ℕ) → says r p ≡ false) ⌝ }
+    // Yes to these points, and no to every other.
+    pub fn new(yes: PointSet) -> Assignment
+        ensures { λ r. ⌜ ((p : ℕ) → says r p ≡ member yes p) ⌝ }
     {
-        Assignment {
-            yes: PointSet::empty(),
-        }
+        Assignment { yes }
     }
 
     // The same, but yes to this point.
@@ -22,7 +21,7 @@ impl Assignment {
         ensures { λ r. ⌜ ((p : ℕ) → says r p ≡ (says self p || eqb p (point .number))) ⌝ }
     {
         Assignment {
-            yes: self.yes.with(point),
+            yes: self.yes.union(PointSet::of(point)),
         }
     }
 
@@ -37,6 +36,7 @@ impl Assignment {
     pub fn yes_points(self) -> PointSet
         ensures { λ r. ⌜ r ≡ self .yes ⌝ }
     {
-        self.yes
+        let Assignment { yes } = self;
+        yes
     }
 }

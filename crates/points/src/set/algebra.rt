@@ -58,16 +58,14 @@ impl PointSet {
 
     // This set with one more point.
     pub fn with(self, point: Point) -> PointSet
-        ensures value { λ r. ⌜ r ≡ joined self (single (point .number)) ⌝ }
-        ensures members { λ r. ⌜ ((p : ℕ) → member r p ≡ (member self p || eqb p (point .number))) ⌝ }
+        ensures { λ r. ⌜ r ≡ joined self (single (point .number)) ⌝ }
     {
         self.union(PointSet::of(point))
     }
 
     // This set without one point.
     pub fn without(self, point: Point) -> PointSet
-        ensures value { λ r. ⌜ r ≡ without self (single (point .number)) ⌝ }
-        ensures members { λ r. ⌜ ((p : ℕ) → member r p ≡ (member self p && not (eqb p (point .number)))) ⌝ }
+        ensures { λ r. ⌜ r ≡ without self (single (point .number)) ⌝ }
     {
         self.difference(PointSet::of(point))
     }

@@ -39,9 +39,10 @@ impl LiteralSet {
     pub fn empty() -> LiteralSet
         ensures { λ r. ⌜ r ≡ bare ⌝ }
     {
+        let none = PointSet::empty();
         LiteralSet {
-            yes: PointSet::empty(),
-            no: PointSet::empty(),
+            yes: none,
+            no: none,
         }
     }
 
@@ -55,6 +56,7 @@ impl LiteralSet {
             None
         }
     }
+
     // The points that the two sets name oppositely.
     pub(crate) fn opposed_points(self, other: LiteralSet) -> PointSet
         ensures { λ r. ⌜ ((p : ℕ) → member r p ≡ opposed self other p) ⌝ }

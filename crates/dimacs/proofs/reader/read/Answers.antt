@@ -15,6 +15,7 @@ use Rattle.dimacs.specs.Steps.{Answers}
 use Rattle.dimacs.specs.declared.fault.Cause.{Cause}
 use Rattle.dimacs.specs.declared.fault.Cause.the-variants.{Long, Header as BadHeader, Open}
 use Rattle.dimacs.proofs.AcceptLaws.{judged}
+use Rattle.dimacs.proofs.PlainLaws.{reads-back, example}
 use Rattle.dimacs.proofs.ReadLaws.{reading-long, reading-comments, reading-bad, reading-points, reading-body}
 use Rattle.dimacs.proofs.reader.read.Needs as need
 
@@ -29,19 +30,19 @@ refusal text table e at is =
 pub returns-then-text-gt-MOST-BYTES : need.returns-then-text-gt-MOST-BYTES
 returns-then-text-gt-MOST-BYTES c =
     let e = reading-long (length (c .args .table .now)) (c .args .text .now) (c .if-text-gt-MOST-BYTES .taken) in
-    refusal (c .args .text .now) (c .args .table .now) Long 16384 e
+    record { reads = refusal (c .args .text .now) (c .args .table .now) Long 16384 e; back = reads-back; example = example }
 
 pub returns-in-rest : need.returns-in-rest
 returns-in-rest c =
     let e = reading-comments (length (c .args .table .now)) (c .args .text .now) (c .if-text-gt-MOST-BYTES .left) (c .in-rest .ensures tt) in
-    refusal (c .args .text .now) (c .args .table .now) BadHeader (length (c .args .text .now)) e
+    record { reads = refusal (c .args .text .now) (c .args .table .now) BadHeader (length (c .args .text .now)) e; back = reads-back; example = example }
 
 pub returns-in-rest-parse : need.returns-in-rest-parse
 returns-in-rest-parse c =
     let e =
-            reading-bad (length (c .args .table .now)) (c .args .text .now) (c .if-text-gt-MOST-BYTES .left) (c .in-Some .field-0 .start) (c .in-Some .field-0 .end) (c .in-Some .ensures tt)
-            (sym (c .in-rest-parse .ensures tt .value)) in
-    refusal (c .args .text .now) (c .args .table .now) BadHeader (c .in-Some .field-0 .start) e
+    reading-bad (length (c .args .table .now)) (c .args .text .now) (c .if-text-gt-MOST-BYTES .left) (c .in-Some .field-0 .start) (c .in-Some .field-0 .end) (c .in-Some .ensures tt)
+    (sym (c .in-rest-parse .ensures tt .value)) in
+    record { reads = refusal (c .args .text .now) (c .args .table .now) BadHeader (c .in-Some .field-0 .start) e; back = reads-back; example = example }
 
 pub returns-in-Ok : need.returns-in-Ok
 returns-in-Ok c =
@@ -53,13 +54,15 @@ returns-in-Ok c =
     let start = c .in-Some .field-0 .start in
     let end = c .in-Some .field-0 .end in
     let e : body (case .points) (d .clauses) (length table) (length text) (tokensFrom end (drop end text)) begun ≡ reading (length table) text =
-            ap (λ (n : ℕ). body n (d .clauses) (length table) (length text) (tokensFrom end (drop end text)) begun) points
-            ∙ sym
-                (reading-body (length table) text (c .if-text-gt-MOST-BYTES .left) start end (c .in-Some .ensures tt) d (sym (c .in-Some-parse .ensures tt .value))
-                (omega (arith, points, case .some)) (omega (arith, points, case .few))) in
+    ap (λ (n : ℕ). body n (d .clauses) (length table) (length text) (tokensFrom end (drop end text)) begun) points
+    ∙ sym
+    (reading-body (length table) text (c .if-text-gt-MOST-BYTES .left) start end (c .in-Some .ensures tt) d (sym (c .in-Some-parse .ensures tt .value))
+    (omega (arith, points, case .some)) (omega (arith, points, case .few))) in
     let answer = subst (λ (x : Reading). Answers x (c .read-body .result)) e (c .read-body .ensures .answer) in
     let rows = c .read-body .ensures .rows ∙ ap (λ (x : Reading). over (x .clauses) table) e in
-    record { answer = answer; judged = judged (length table) text table (c .read-body .last .table) (c .read-body .result) answer rows; rows = rows }
+    let reads : Reads text table (c .read-body .last .table) (c .read-body .result) =
+    record { answer = answer; judged = judged (length table) text table (c .read-body .last .table) (c .read-body .result) answer rows; rows = rows } in
+    record { reads = reads; back = reads-back; example = example }
 
 -- an opening is refused for the number of points alone
 refused-points : (e : OpenFault) (n : ℕ) → openRefusal e .1 n → (e ≡ Points) × (1 ≤ n → n ≤ 64 → ⊥)
@@ -71,7 +74,9 @@ returns-in-Err c =
     let start = c .in-Some .field-0 .start in
     let why = refused-points (c .in-Err .fault) (d .points) (c .in-Err .ensures tt) in
     let e =
-            reading-points (length (c .args .table .now)) (c .args .text .now) (c .if-text-gt-MOST-BYTES .left) start (c .in-Some .field-0 .end) (c .in-Some .ensures tt) d
-            (sym (c .in-Some-parse .ensures tt .value)) (why .1) in
+    reading-points (length (c .args .table .now)) (c .args .text .now) (c .if-text-gt-MOST-BYTES .left) start (c .in-Some .field-0 .end) (c .in-Some .ensures tt) d
+    (sym (c .in-Some-parse .ensures tt .value)) (why .1) in
+    let reads =
     refusal (c .args .text .now) (c .args .table .now) (c .into .result) (start + d .«points_at»)
-    (e ∙ ap (λ (x : Cause). refused [] x (start + d .«points_at»)) (sym (c .into .ensures ∙ ap Open (why .0))))
+    (e ∙ ap (λ (x : Cause). refused [] x (start + d .«points_at»)) (sym (c .into .ensures ∙ ap Open (why .0)))) in
+    record { reads = reads; back = reads-back; example = example }

@@ -6,8 +6,8 @@ use Rattle.statements.proofs.literals.LiteralSet.empty.Needs as need
 
 pub ghost-result : need.ghost-result
 unfolding bare common isEmpty
-ghost-result c = (ap₂ (λ s t. isEmpty (common s t)) (c .empty .ensures .value) (c .empty-2 .ensures .value) ∙ bare .apart, tt)
+ghost-result c = (ap₂ (λ s t. isEmpty (common s t)) (c .empty-none .ensures .value) (c .empty-none .ensures .value) ∙ bare .apart, tt)
 
 pub returns : need.returns
 unfolding bare
-returns c = same-literals _ bare (c .empty .ensures .value) (c .empty-2 .ensures .value)
+returns c = same-literals _ bare (c .empty-none .ensures .value) (c .empty-none .ensures .value)

@@ -17,11 +17,11 @@ value c =
     c .ok-or .ensures .value
     ∙ elim (c .match-literal .came) [
       | in-Positive w ↦
-          ap (λ (o : Option LiteralSet). okOr o Opposed) (w .extended-is ∙ w .of-extended .ensures ∙ ap (λ (y : PointSet). clear y (s .no)) (w .with .ensures .value))
+          ap (λ (o : Option LiteralSet). okOr o Opposed) (w .extended-is ∙ w .of-extended .ensures ∙ ap (λ (y : PointSet). clear y (s .no)) (w .with .ensures))
           ∙ extended-positive s (w .in-Positive .point)
           ∙ ap (λ (l : Literal). extended s (signed l)) (sym (w .in-Positive .is))
       | in-Negative w ↦
-          ap (λ (o : Option LiteralSet). okOr o Opposed) (w .extended-is ∙ w .of-extended-in-Negative .ensures ∙ ap (clear (s .yes)) (w .with-in-Negative .ensures .value))
+          ap (λ (o : Option LiteralSet). okOr o Opposed) (w .extended-is ∙ w .of-extended-in-Negative .ensures ∙ ap (clear (s .yes)) (w .with-in-Negative .ensures))
           ∙ extended-negative s (w .in-Negative .point)
           ∙ ap (λ (l : Literal). extended s (signed l)) (sym (w .in-Negative .is))
     ]

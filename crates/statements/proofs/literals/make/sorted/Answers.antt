@@ -49,13 +49,13 @@ loop-number-again c =
     elim (c .match-branch-2 .came) [
       | in-Positive w ↦
           more (c .match-branch-2 .yes) (c .match-branch-2 .no)
-          (w .yes-is ∙ w .with-yes .ensures .value ∙ ap (λ (k : Literal). joined (c .loop-number .yes) (asserted (signed k))) (sym (w .in-Positive .is)))
+          (w .yes-is ∙ w .with-yes .ensures ∙ ap (λ (k : Literal). joined (c .loop-number .yes) (asserted (signed k))) (sym (w .in-Positive .is)))
           (w .no-is ∙ sym (joined-none (c .loop-number .no)) ∙ ap (λ (k : Literal). joined (c .loop-number .no) (denied (signed k))) (sym (w .in-Positive .is)))
       | in-Negative w ↦
           more (c .match-branch-2 .yes) (c .match-branch-2 .no)
           (w .yes-is ∙ sym (joined-none (c .loop-number .yes)) ∙ ap (λ (k : Literal). joined (c .loop-number .yes) (asserted (signed k))) (sym (w .in-Negative .is)))
           (w .no-is
-          ∙ w .with-no .ensures .value
+          ∙ w .with-no .ensures
           ∙ denied-more (c .loop-number .no) (w .in-Negative .point)
           ∙ ap (λ (k : Literal). joined (c .loop-number .no) (denied (signed k))) (sym (w .in-Negative .is)))
     ]

@@ -38,8 +38,7 @@ returns c =
     let lit : isLiteral z ≡ true = sym (ap isLiteral is) ∙ literal-number l in
     let within : natAbs z ≤ r .case .points = omega (arith, c .in-Continue-admit .ensures tt, c .unsigned-abs .ensures .value ∙ ap natAbs back) in
     let law : (w : ℤ) → names t w ≡ (names (r .literals) w || sameNumber w z) = λ w.
-            c .in-Continue-self .ensures tt .literals w ∙ ap (λ (x : ℤ). names (r .literals) w || sameNumber w x) is in
-    (
+    c .in-Continue-self .ensures tt .literals w ∙ ap (λ (x : ℤ). names (r .literals) w || sameNumber w x) is in (
       added (r .case .points) (r .literals) t z lit within (sym (c .in-Continue-self .ensures tt .value ∙ ap (extended (r .literals)) is)),
       record { points = refl; noted = refl; announced = refl; grows = le-refl (r .case .filed) },
       refl,

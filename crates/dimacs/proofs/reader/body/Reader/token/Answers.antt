@@ -1,4 +1,4 @@
-use mathlib.Core.Path.{_≡_, refl, sym, ap, subst, _∙_}
+use mathlib.Core.Path.{_≡_, sym, ap, subst, _∙_}
 use Prim.Native.Nat.{_≤_, _<_}
 use mir.Syntax.{w32}
 use mir.Val.{SFits, toZ, ofZ}
@@ -10,7 +10,8 @@ use lib.ListN.{length}
 use Rattle.std.specs.declared.option.Option.the-variants.{Some}
 use Rattle.dimacs.specs.Reading.{token, endToken}
 use Rattle.dimacs.specs.Steps.{progress, Adds}
-use Rattle.dimacs.proofs.StepLaws.{token-over, token-stray, token-end, token-literal, filed-count, added-step, same-step}
+use Rattle.dimacs.specs.declared.fault.Cause.the-variants.{Token, Count}
+use Rattle.dimacs.proofs.StepLaws.{token-over, token-stray, token-end, token-literal, filed-count, added-step, same-step, refused-step}
 use Rattle.dimacs.proofs.reader.body.Reader.token.Needs as need
 
 pub returns-then-filed-self : need.returns-then-filed-self
@@ -19,7 +20,8 @@ returns-then-filed-self c =
     let table = c .args .table .now in
     let st = progress r table in
     let over : r .announced ≤ length (st .filed) = omega (arith, filed-count r table (c .pre), c .filed .ensures, c .if-filed-self .taken) in
-    (token-over (r .case .points) (r .announced) (length table) st (c .args .bytes .now) over, refl)
+    refused-step (λ st. token (r .case .points) (r .announced) (length table) st (c .args .bytes .now)) (Unit {0}) r table Count
+    (token-over (r .case .points) (r .announced) (length table) st (c .args .bytes .now) over)
 
 pub returns-in-rest : need.returns-in-rest
 returns-in-rest c =
@@ -27,7 +29,8 @@ returns-in-rest c =
     let table = c .args .table .now in
     let st = progress r table in
     let under : length (st .filed) < r .announced = omega (arith, filed-count r table (c .pre), c .filed .ensures, c .if-filed-self .left) in
-    (token-stray (r .case .points) (r .announced) (length table) st (c .args .bytes .now) under (sym (c .number .ensures) ∙ c .in-rest .is), refl)
+    refused-step (λ st. token (r .case .points) (r .announced) (length table) st (c .args .bytes .now)) (Unit {0}) r table Token
+    (token-stray (r .case .points) (r .announced) (length table) st (c .args .bytes .now) under (sym (c .number .ensures) ∙ c .in-rest .is))
 
 pub returns-then-value-eq0 : need.returns-then-value-eq0
 returns-then-value-eq0 c =

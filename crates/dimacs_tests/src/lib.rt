@@ -1,0 +1,3 @@
+// Tests of the reader on tables of texts.
+#[cfg(test)]
+mod tests;

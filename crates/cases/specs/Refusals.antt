@@ -1,5 +1,4 @@
 -- Each refusal of a case's calls: its number, and the values to which it is the answer. Assumes nothing.
-use mathlib.Core.Path.{_≡_}
 use Prim.Native.Nat.{ℕ, _≤_, _<_, min}
 use Rattle.cases.specs.declared.fault.FileFault.{FileFault}
 use Rattle.cases.specs.declared.fault.FileFault.the-variants.{Beyond, Full}

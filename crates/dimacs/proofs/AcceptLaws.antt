@@ -1,8 +1,7 @@
 -- A text that denotes clauses within the limits is accepted, with these clauses. Assumes nothing.
 use mathlib.Core.Path.{_≡_, refl, sym, ap, ap₂, subst, _∙_}
-use mathlib.Core.Bool.{Bool, true, false, cond, _&&_, _||_}
+use mathlib.Core.Bool.{Bool, true, false, _&&_, _||_}
 use mathlib.Core.List.{List, [], _∷_, _++_, append-assoc, append-nil}
-use mathlib.Core.Logic.{_⊎_, inl, inr}
 use Prim.Native.Nat.{ℕ, zero, suc, _+_, _≤_, _<_}
 use native.Mathlib.Nat.{le-refl}
 use native.Mathlib.Omega.{arith}
@@ -12,7 +11,6 @@ use lib.ListN.{length, take, drop, length-append}
 use lib.Seq.{take-all, take-append-le}
 use Rattle.std.proofs.shelf.Tests.{cond-true, and-from, and-parts, or-left, or-right, le-leb, lt-ltb, eq-eqb, true≢false}
 use Rattle.std.specs.Options.{isSome}
-use Rattle.std.specs.Results.{Cases, isOk}
 use Rattle.std.specs.declared.option.Option.{Option}
 use Rattle.std.specs.declared.option.Option.the-variants.{Some, None}
 use Rattle.std.specs.declared.result.Result.{Result}
@@ -21,25 +19,23 @@ use Rattle.cases.specs.Refusals.{usable}
 use Rattle.cases.specs.declared.fault.FileFault.the-variants.{Full}
 use Rattle.cases.specs.declared.fault.OpenFault.the-variants.{Points}
 use Rattle.cases.specs.declared.open.OpenCase.{OpenCase}
-use Rattle.lexer.specs.Headers.{headed, headerOf}
+use Rattle.lexer.specs.Headers.{headed}
 use Rattle.lexer.specs.Numerals.{numberOf}
 use Rattle.lexer.specs.Text.{Piece, linesFrom, tokens}
-use Rattle.points.specs.Sets.{member, greatest}
+use Rattle.points.specs.Sets.{greatest}
 use Rattle.points.proofs.Sizes.{member-last}
 use Rattle.statements.specs.Clauses.{clauseOf, named}
 use Rattle.statements.specs.Literals.{bare, names, sameNumber, listed}
-use Rattle.statements.specs.Making.{isLiteral, areLiterals, made, extended, makeRefusal}
+use Rattle.statements.specs.Making.{isLiteral, areLiterals, made, extended}
 use Rattle.statements.specs.declared.clause.Clause.{Clause}
 use Rattle.statements.specs.declared.fault.MakeFault.{MakeFault}
-use Rattle.statements.specs.declared.fault.MakeFault.the-variants.{Opposed}
 use Rattle.statements.specs.declared.literals.LiteralSet.{LiteralSet}
 use Rattle.statements.proofs.ClauseLaws.{names-point, pointOf}
 use Rattle.statements.proofs.LiteralLaws.{never-both}
 use Rattle.statements.proofs.MakeLaws.{Made, Extended, made-law, extended-law, made-none, made-push, made-of-numbers, literals-append}
-use Rattle.dimacs.specs.Denoting.{andThen, numbersOf, Spells, nothing, clause, OnPoints, Denotes, Case, Judged}
-use Rattle.dimacs.specs.Reading.{Progress, Reading, accepted, refused, begun, goOn, withPending, literalToken, token, body, fromLine, fromHeader, reading, over}
+use Rattle.dimacs.specs.Denoting.{andThen, numbersOf, Spells, nothing, clause, OnPoints, Case, Judged}
+use Rattle.dimacs.specs.Reading.{Progress, Reading, accepted, refused, begun, goOn, withPending, body, fromLine, fromHeader, reading, over}
 use Rattle.dimacs.specs.Steps.{Answers}
-use Rattle.dimacs.specs.declared.fault.Cause.{Cause}
 use Rattle.dimacs.specs.declared.fault.Cause.the-variants.{Long, Count, Open, File}
 use Rattle.dimacs.specs.declared.fault.Fault.{Fault}
 use Rattle.dimacs.proofs.DenoteLaws.{accepted-case, not-ok}

@@ -1,6 +1,6 @@
 -- An accepted text denotes the clauses that are filed. Assumes nothing.
 use mathlib.Core.Path.{_≡_, refl, sym, ap, ap₂, subst, _∙_}
-use mathlib.Core.Bool.{Bool, true, false, cond, _&&_, _||_}
+use mathlib.Core.Bool.{true, false, cond, _&&_, _||_}
 use mathlib.Core.List.{List, [], _∷_, _++_, append-assoc, append-nil}
 use mathlib.Core.Logic.{_⊎_, inl, inr}
 use Prim.Native.Nat.{ℕ, _+_, _≤_, _<_}
@@ -17,21 +17,18 @@ use Rattle.std.specs.declared.result.Result.the-variants.{Ok, Err}
 use Rattle.cases.specs.Refusals.{usable}
 use Rattle.cases.specs.declared.fault.OpenFault.the-variants.{Points}
 use Rattle.lexer.specs.Headers.{headed, headerOf}
-use Rattle.lexer.specs.Numerals.{numberOf}
 use Rattle.lexer.specs.Text.{Piece, linesFrom, tokens}
 use Rattle.lexer.specs.declared.headers.Header.{Header}
 use Rattle.points.specs.Sets.{greatest}
 use Rattle.statements.specs.Clauses.{clauseOf, named}
 use Rattle.statements.specs.Literals.{bare, names, sameNumber}
-use Rattle.statements.specs.Making.{made, extended}
+use Rattle.statements.specs.Making.{made}
 use Rattle.statements.specs.declared.clause.Clause.{Clause}
-use Rattle.statements.specs.declared.fault.MakeFault.{MakeFault}
-use Rattle.statements.specs.declared.literals.LiteralSet.{LiteralSet}
 use Rattle.statements.proofs.MakeLaws.{Extended, extended-law, made-none, made-push}
-use Rattle.dimacs.specs.Denoting.{andThen, numbersOf, Spells, nothing, clause, OnPoints, Denotes, Case}
+use Rattle.dimacs.specs.Denoting.{andThen, numbersOf, Spells, nothing, clause, OnPoints, Case}
 use Rattle.dimacs.specs.Reading.{Progress, Reading, accepted, refused, begun, atEnd, goOn, token, body, fromHeader, fromLine, reading}
 use Rattle.dimacs.specs.declared.fault.Cause.{Cause}
-use Rattle.dimacs.specs.declared.fault.Cause.the-variants.{Long, Header as BadHeader, Count, Open}
+use Rattle.dimacs.specs.declared.fault.Cause.the-variants.{Long, Count, Open}
 use Rattle.dimacs.specs.declared.fault.Fault.{Fault}
 use Rattle.dimacs.proofs.StepLaws.{added-last, bare-last}
 use Rattle.dimacs.proofs.TokenViews.{View, literal, finish, stop, token-view}

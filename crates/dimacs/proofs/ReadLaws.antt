@@ -1,20 +1,17 @@
 -- What a text says, by its header and its tokens. Assumes nothing.
-use mathlib.Core.Path.{_≡_, sym, ap, ap₂, _∙_}
-use mathlib.Core.Bool.{Bool, true, false, cond, _&&_}
-use mathlib.Core.List.{List, [], _++_}
+use mathlib.Core.Path.{_≡_, ap, _∙_}
+use mathlib.Core.Bool.{true, false, _&&_}
+use mathlib.Core.List.{List, []}
 use mathlib.Core.Logic.{_⊎_, inl, inr}
 use Prim.Native.Nat.{ℕ, _+_, _≤_, _<_}
 use native.Mathlib.Omega.{arith}
-use lib.Dec.{eqb, leb}
-use lib.ListN.{length, take, drop}
-use Rattle.std.proofs.shelf.Tests.{cond-true, cond-false, le-leb, lt-leb, leb-true, eq-eqb, ne-eqb, and-from, and-parts, cases-bool}
+use lib.Dec.{leb}
+use lib.ListN.{length, drop}
+use Rattle.std.proofs.shelf.Tests.{cond-true, cond-false, le-leb, lt-leb, leb-true, and-from, and-parts, cases-bool}
 use Rattle.std.specs.declared.option.Option.{Option}
 use Rattle.std.specs.declared.option.Option.the-variants.{Some, None}
-use Rattle.std.specs.declared.result.Result.{Result}
-use Rattle.std.specs.declared.result.Result.the-variants.{Ok, Err}
 use Rattle.cases.specs.Filing.{Opened}
 use Rattle.cases.specs.declared.fault.OpenFault.the-variants.{Points}
-use Rattle.cases.specs.declared.open.OpenCase.{OpenCase}
 use Rattle.lexer.specs.Cuts.{part}
 use Rattle.lexer.specs.Headers.{headed, headerOf, HeaderAt}
 use Rattle.lexer.specs.Text.{Piece, linesFrom, tokens, tokensFrom}
@@ -24,12 +21,11 @@ use Rattle.statements.specs.Clauses.{clauseOf, named}
 use Rattle.statements.specs.Literals.{bare}
 use Rattle.statements.specs.declared.clause.Clause.{Clause}
 use Rattle.statements.specs.declared.literals.LiteralSet.{LiteralSet}
-use Rattle.dimacs.specs.Reading.{Progress, Reading, refused, accepted, begun, atEnd, body, fromHeader, fromLine, reading, over}
-use Rattle.dimacs.specs.Steps.{progress, Ready, Steady, Walks, Answers, Finishes}
-use Rattle.dimacs.specs.declared.fault.Cause.the-variants.{Long, Header as BadHeader, Count, Open}
-use Rattle.dimacs.specs.declared.fault.Fault.{Fault}
+use Rattle.dimacs.specs.Reading.{refused, begun, body, fromHeader, fromLine, reading}
+use Rattle.dimacs.specs.Steps.{Ready}
+use Rattle.dimacs.specs.declared.fault.Cause.the-variants.{Long, Header as BadHeader, Open}
 use Rattle.dimacs.specs.declared.reader.body.Reader.{Reader}
-use Rattle.dimacs.proofs.StepLaws.{bare-last, filed-count}
+use Rattle.dimacs.proofs.StepLaws.{bare-last}
 
 module _ (rows : ℕ) (text : List ℕ) where
   pub reading-long : 16384 < length text → reading rows text ≡ refused [] Long 16384
@@ -82,24 +78,3 @@ new-ready r table o e = record {
   rows = omega (arith, o .none-filed);
   known = omega (arith, ap (λ (l : LiteralSet). greatest (named (clauseOf l))) e ∙ bare-last);
 }
-
-pub new-progress : (r : Reader) (table : List Clause) → Opened (r .case .points) (r .case) → r .literals ≡ bare → progress r table ≡ begun
-new-progress r table o e = ap₂ (λ (n : ℕ) (l : LiteralSet). record { filed = take n table; pending = l }) (o .none-filed) e
-
--- the end of the text, by what the reader has
-pub at-end : (n announced rows end : ℕ) (s : Reader) (now : List Clause) (r : Result OpenCase Fault) → Ready s now → s .case .points ≡ n → s .case .noted ≡ None → s .announced ≡ announced
-    → Finishes s end r → Answers (atEnd n announced rows end (progress s now)) r × (atEnd n announced rows end (progress s now) .clauses ≡ progress s now .filed)
-at-end n announced rows end s now (Ok c) ready points noted count (e, same) =
-    let full : eqb (length (progress s now .filed)) announced ≡ true = eq-eqb (length (progress s now .filed)) announced (filed-count s now ready ∙ e ∙ count) in
-    let all : atEnd n announced rows end (progress s now) ≡ accepted (progress s now .filed) n = cond-true (eqb (length (progress s now .filed)) announced) (accepted (progress s now .filed) n) (refused (progress s now .filed) Count end) full in (
-      (
-        ap (λ (x : Reading). x .answer) all ∙ ap Ok (sym points ∙ sym (ap (λ (d : OpenCase). d .points) same)),
-        ap (λ (d : OpenCase). d .filed) same ∙ sym (filed-count s now ready) ∙ sym (ap (λ (x : Reading). length (x .clauses)) all),
-        ap (λ (d : OpenCase). d .noted) same ∙ noted,
-      ),
-      ap (λ (x : Reading). x .clauses) all,
-    )
-at-end n announced rows end s now (Err f) ready points noted count (ne, same) =
-    let short : eqb (length (progress s now .filed)) announced ≡ false = ne-eqb (length (progress s now .filed)) announced (λ e. ne (sym (filed-count s now ready) ∙ e ∙ sym count)) in
-    let all : atEnd n announced rows end (progress s now) ≡ refused (progress s now .filed) Count end = cond-false (eqb (length (progress s now .filed)) announced) (accepted (progress s now .filed) n) (refused (progress s now .filed) Count end) short in
-    (ap (λ (x : Reading). x .answer) all ∙ ap Err (sym same), ap (λ (x : Reading). x .clauses) all)

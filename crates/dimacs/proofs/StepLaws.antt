@@ -1,6 +1,6 @@
 -- The steps of the reader. Assumes nothing.
 use mathlib.Core.Path.{_≡_, refl, sym, ap, ap₂, subst, _∙_}
-use mathlib.Core.Bool.{Bool, true, false, cond, _||_}
+use mathlib.Core.Bool.{true, false, cond, _||_}
 use mathlib.Core.List.{List, [], _∷_, _++_}
 use mathlib.Core.Logic.{_⊎_, inl, inr}
 use Prim.Native.Nat.{ℕ, zero, suc, _≤_, _<_}
@@ -26,7 +26,6 @@ use Rattle.statements.specs.Clauses.{clauseCore, clauseOf, named}
 use Rattle.statements.specs.Literals.{bare, names, sameNumber}
 use Rattle.statements.specs.Making.{isLiteral, extended}
 use Rattle.statements.specs.declared.clause.Clause.{Clause}
-use Rattle.statements.specs.declared.fault.MakeFault.{MakeFault}
 use Rattle.statements.specs.declared.fault.MakeFault.the-variants.{Magnitude}
 use Rattle.statements.specs.declared.literals.LiteralSet.{LiteralSet}
 use Rattle.statements.proofs.ClauseLaws.{named-literal, names-point, pointOf}
@@ -115,17 +114,6 @@ added n s t z lit within e =
     cond-true (isLiteral z) (cond (leb (natAbs z) n) (asCause (extended s z)) (Err (File Beyond))) (Err (Make Magnitude)) lit
     ∙ cond-true (leb (natAbs z) n) (asCause (extended s z)) (Err (File Beyond)) (le-leb (natAbs z) n within)
     ∙ ap asCause e
-
-pub added-opposed : (n : ℕ) (s : LiteralSet) (z : ℤ) (e : MakeFault) → isLiteral z ≡ true → natAbs z ≤ n → extended s z ≡ Err e → literalToken n s z ≡ Err (Make e)
-added-opposed n s z f lit within e =
-    cond-true (isLiteral z) (cond (leb (natAbs z) n) (asCause (extended s z)) (Err (File Beyond))) (Err (Make Magnitude)) lit
-    ∙ cond-true (leb (natAbs z) n) (asCause (extended s z)) (Err (File Beyond)) (le-leb (natAbs z) n within)
-    ∙ ap asCause e
-
-pub added-beyond : (n : ℕ) (s : LiteralSet) (z : ℤ) → isLiteral z ≡ true → n < natAbs z → literalToken n s z ≡ Err (File Beyond)
-added-beyond n s z lit out =
-    cond-true (isLiteral z) (cond (leb (natAbs z) n) (asCause (extended s z)) (Err (File Beyond))) (Err (Make Magnitude)) lit
-    ∙ cond-false (leb (natAbs z) n) (asCause (extended s z)) (Err (File Beyond)) (lt-leb (natAbs z) n out)
 
 pub added-large : (n : ℕ) (s : LiteralSet) (z : ℤ) → isLiteral z ≡ false → literalToken n s z ≡ Err (Make Magnitude)
 added-large n s z out =

@@ -1,8 +1,7 @@
 -- The walk over the tokens. Assumes nothing.
-use mathlib.Core.Path.{_≡_, refl, sym, ap, ap₂, subst, _∙_}
-use mathlib.Core.List.{List, [], _∷_, _++_}
+use mathlib.Core.Path.{_≡_, sym, ap, _∙_}
+use mathlib.Core.List.{List, [], _++_}
 use Prim.Native.Nat.{ℕ, _+_, _-_}
-use native.Mathlib.Nat.{le-refl}
 use native.Mathlib.Omega.{arith}
 use lib.ListN.{length, take, drop, take-append-drop}
 use lib.Seq.{drop-drop}
@@ -13,10 +12,9 @@ use Rattle.lexer.specs.Text.{Piece, words, tokensFrom}
 use Rattle.lexer.specs.declared.pieces.Cut.the-variants.{Space}
 use Rattle.lexer.proofs.Tokens.{first-token, no-token}
 use Rattle.statements.specs.declared.clause.Clause.{Clause}
-use Rattle.dimacs.specs.Reading.{Progress, Reading, refused, token, goOn, atEnd, body, over}
+use Rattle.dimacs.specs.Reading.{Progress, Reading, token, goOn, atEnd, body, over}
 use Rattle.dimacs.specs.Steps.{progress, Ready, Steady, Steps, Walks}
 use Rattle.dimacs.specs.declared.fault.Cause.{Cause}
-use Rattle.dimacs.specs.declared.fault.Fault.{Fault}
 use Rattle.dimacs.specs.declared.reader.body.Reader.{Reader}
 use Rattle.dimacs.proofs.StepLaws.{filed-count}
 
@@ -28,15 +26,6 @@ pub record Walked (text : List ℕ) (from at : ℕ) (r : Reader) (table : List C
   pub ready : Ready s now
   pub rest : drop (s .case .filed) now ≡ drop (s .case .filed) table
   pub long : length now ≡ length table
-
-pub walked-none : (text : List ℕ) (from : ℕ) (r : Reader) (table : List Clause) → Ready r table → Walked text from from r table r table
-walked-none text from r table ready = record {
-  same = refl;
-  steady = record { points = refl; noted = refl; announced = refl; grows = le-refl (r .case .filed) };
-  ready = ready;
-  rest = refl;
-  long = refl;
-}
 
 -- what is written over the front of the table
 written : (s : Reader) (table now : List Clause) → Ready s now → drop (s .case .filed) now ≡ drop (s .case .filed) table → now ≡ over (progress s now .filed) table

@@ -1,13 +1,13 @@
 -- What numerals are worth. Assumes nothing.
-use mathlib.Core.Path.{_≡_, refl, sym, ap, _∙_, subst}
+use mathlib.Core.Path.{_≡_, refl, sym, ap, _∙_}
 use mathlib.Core.Bool.{true, false, _&&_}
 use mathlib.Core.List.{List, [], _∷_, map}
 use mathlib.Core.Logic.{⊎-elim}
 use Prim.Native.Nat.{ℕ, zero, suc, _+_, _-_, _^_, _≤_, _<_}
 use native.Mathlib.Nat.{pow-le-pow-right}
 use native.Mathlib.Omega.{arith}
-use lib.Dec.{eqb, leb, lit<}
-use lib.IntN.{ℤ, pos, negsuc, natAbs, _-ℤ_}
+use lib.Dec.{leb, lit<}
+use lib.IntN.{pos, _-ℤ_}
 use lib.ListN.{length, getD, drop, length-map}
 use Rattle.std.proofs.shelf.Lists.{drop-more, take-rest}
 use Rattle.std.proofs.shelf.Tests.{leb-true, and-parts, and-from, and-left, and-right, eq-eqb, ne-eqb, cond-true, cond-false, cases-bool}
@@ -16,7 +16,6 @@ use Rattle.std.proofs.shelf.Signed.{ints}
 use mir.Syntax.{w32}
 use mir.Val.{toZ, ofZ}
 use Rattle.std.specs.Text.{asciiDigit}
-use Rattle.std.specs.declared.option.Option.{Option}
 use Rattle.std.specs.declared.option.Option.the-variants.{Some, None}
 use Rattle.std.specs.shelf.Digits.{Under}
 use Rattle.lexer.specs.Cuts.{part}
@@ -76,25 +75,6 @@ pub number-plus : (bs : List ℕ) → (getD bs 0 0 ≡ 45 → ⊥) → plus (num
 unfolding numberOf numeralOf
 number-plus [] h = refl
 number-plus (b ∷ bs) h = sym (cond-false _ _ _ (ne-eqb b 45 h))
-
-plus-small : (o : Option ℕ) → ((v : ℕ) → o ≡ Some v → v ≤ 99999) → (z : ℤ) → plus o ≡ Some z → natAbs z ≤ 99999
-plus-small None small z e = let clash : _≡_ {A = ℕ} 0 1 = cc in absurd (omega arith)
-plus-small (Some v) small z e = let is : pos v ≡ z = cc in subst (λ y. natAbs y ≤ 99999) is (small v refl)
-
-minus-small : (o : Option ℕ) → ((v : ℕ) → o ≡ Some v → v ≤ 99999) → (z : ℤ) → minus o ≡ Some z → natAbs z ≤ 99999
-minus-small None small z e = let clash : _≡_ {A = ℕ} 0 1 = cc in absurd (omega arith)
-minus-small (Some zero) small z e = let clash : _≡_ {A = ℕ} 0 1 = cc in absurd (omega arith)
-minus-small (Some (suc v)) small z e = let is : negsuc v ≡ z = cc in subst (λ y. natAbs y ≤ 99999) is (small (suc v) refl)
-
--- a number is at most 99999 away from 0
-pub number-small : (bs : List ℕ) (z : ℤ) → numberOf bs ≡ Some z → natAbs z ≤ 99999
-unfolding numberOf
-number-small [] z e = let clash : _≡_ {A = ℕ} 0 1 = cc in absurd (omega arith)
-number-small (b ∷ bs) z e =
-    ⊎-elim
-    (λ (h : eqb b 45 ≡ true). minus-small (numeralOf bs) (numeral-small bs) z (sym (cond-true _ _ _ h) ∙ e))
-    (λ (h : eqb b 45 ≡ false). plus-small (numeralOf (b ∷ bs)) (numeral-small (b ∷ bs)) z (sym (cond-false _ _ _ h) ∙ e))
-    (cases-bool (eqb b 45))
 
 -- what the code computes for a minus
 pub minus-is : (v : ℕ) → (v ≡ 0 → ⊥) → v ≤ 99999 → Some (toZ w32 (ofZ w32 (pos 0 -ℤ toZ w32 v))) ≡ minus (Some v)

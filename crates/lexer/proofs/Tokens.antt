@@ -2,14 +2,14 @@
 use mathlib.Core.Path.{_≡_, refl, sym, ap, _∙_}
 use mathlib.Core.Bool.{true, false, cond, not, _||_}
 use mathlib.Core.List.{List, [], _∷_, _++_}
-use Prim.Native.Nat.{ℕ, _+_, _≤_}
+use Prim.Native.Nat.{ℕ, _+_}
 use native.Mathlib.Nat.{add-zero}
 use native.Mathlib.Omega.{arith}
 use lib.ListN.{length, take, drop}
 use Rattle.lexer.specs.Text.{Piece, is-line-end, is-space, is-separator, run, first-byte, pieces, placed, keep, solid, words, linesFrom, tokens, tokensFrom}
 use Rattle.lexer.specs.Cuts.{cutsAt, part, FirstWord}
 use Rattle.lexer.specs.declared.pieces.Cut.the-variants.{Space}
-use Rattle.lexer.proofs.Words.{later, pieces-run, extent, extent-pieces, words-none, words-skip, words-take}
+use Rattle.lexer.proofs.Words.{later, pieces-run, extent, extent-pieces, words-none}
 
 keep-append : (at : ℕ) (p : List ℕ) (ps qs : List Piece) → keep at p (ps ++ qs) ≡ keep at p ps ++ qs
 keep-append at [] ps qs = refl
@@ -76,16 +76,6 @@ tokens-words at bs = tokens-placed at (pieces is-line-end bs) ∙ ap (λ ps. sol
 
 pub tokens-none : (at : ℕ) → tokensFrom at [] ≡ []
 tokens-none at = tokens-words at [] ∙ words-none (cutsAt Space) at
-
-pub tokens-skip : (at n : ℕ) (bs : List ℕ) → n ≡ run (λ b. not (cutsAt Space b)) bs → tokensFrom at bs ≡ tokensFrom (at + n) (drop n bs)
-tokens-skip at n bs e =
-    tokens-words at bs ∙ words-skip (cutsAt Space) at bs ∙ ap (λ k. words (cutsAt Space) (at + k) (drop k bs)) (sym e) ∙ sym (tokens-words (at + n) (drop n bs))
-
-pub tokens-take : (at n b : ℕ) (bs : List ℕ) → cutsAt Space b ≡ false → n ≡ run (cutsAt Space) (b ∷ bs) → (1 ≤ n) × (tokensFrom at (b ∷ bs) ≡ (at, take n (b ∷ bs)) ∷ tokensFrom (at + n) (drop n (b ∷ bs)))
-tokens-take at n b bs h e = (
-  omega (arith, simp h at e),
-  tokens-words at (b ∷ bs) ∙ words-take (cutsAt Space) at b bs h ∙ ap (λ k. (at, take k (b ∷ bs)) ∷ words (cutsAt Space) (at + k) (drop k (b ∷ bs))) (sym e) ∙ ap (λ ts. (at, take n (b ∷ bs)) ∷ ts) (sym (tokens-words (at + n) (drop n (b ∷ bs)))),
-)
 
 -- where `next_word` finds no word, or one, between separators
 pub no-token : (text : List ℕ) (from : ℕ) → words (cutsAt Space) from (drop from text) ≡ [] → tokensFrom from (drop from text) ≡ []

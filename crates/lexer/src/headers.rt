@@ -15,7 +15,7 @@ use crate::pieces::next_word;
 use crate::pieces::piece_end;
 
 // What a header line says. `points_at` is where the number of points stands in the line.
-#[derive(Clone, Copy, Debug, PartialEq)]
+#[derive(Clone, Copy)]
 pub struct Header {
     pub points: u32,
     pub points_at: usize,

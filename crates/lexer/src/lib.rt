@@ -4,18 +4,11 @@ mod numbers;
 mod pieces;
 
 pub use headers::Header;
-pub use headers::HeaderDebug;
-pub use headers::HeaderPartialEq;
 pub use headers::header_line;
 pub use numbers::number;
 pub use numbers::numeral;
 pub use pieces::Cut;
 pub use pieces::Span;
-pub use pieces::SpanDebug;
-pub use pieces::SpanPartialEq;
 pub use pieces::next_word;
 pub use pieces::piece_end;
 pub use pieces::skip;
-
-#[cfg(test)]
-mod tests;

@@ -17,7 +17,7 @@ pub enum Cut {
 }
 
 // A part of a text, from `start` up to, not including, `end`.
-#[derive(Clone, Copy, Debug, PartialEq)]
+#[derive(Clone, Copy)]
 pub struct Span {
     pub start: usize,
     pub end: usize,

@@ -1,13 +1,13 @@
 -- What the sets have for members, and that their members tell them apart. Assumes nothing.
-use mathlib.Core.Path.{_≡_, refl, sym, ap, subst, _∙_}
-use mathlib.Core.Bool.{Bool, true, false, cond, not, _&&_, _||_}
+use mathlib.Core.Path.{_≡_, refl, sym, ap, _∙_}
+use mathlib.Core.Bool.{Bool, true, false, not, _&&_, _||_}
 use mathlib.Core.HLevel.{isProp→PathP}
 use mathlib.Core.Logic.{_⊎_, inl, inr}
-use Prim.Native.Nat.{ℕ, zero, suc, _+_, _-_, _*_, _/_, _%_, _^_, _≤_, _<_, min, max}
+use Prim.Native.Nat.{ℕ, zero, suc, _+_, _-_, _%_, _^_, _≤_, _<_, min, max}
 use native.Mathlib.Bridge.{le-prop}
 use native.Mathlib.Nat.{zero-div, mod-eq-of-lt, not-suc-le-zero}
 use native.Mathlib.Omega.{arith}
-use lib.Bits.{bitAnd, bitOr}
+use lib.Bits.{bitAnd}
 use lib.Dec.{eqb}
 use lib.Pow.{pow-lt}
 use Rattle.std.proofs.shelf.Tests.{eqb-true, eq-eqb, ne-eqb, cases-eq, cases-lt, both-ways, and-left, and-right, true≢false}

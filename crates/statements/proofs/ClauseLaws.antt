@@ -2,12 +2,11 @@
 use mathlib.Core.Path.{_≡_, refl, sym, ap, ap₂, subst, _∙_}
 use mathlib.Core.Bool.{Bool, true, false, cond, not, _&&_, _||_}
 use mathlib.Core.Logic.{_⊎_, inl, inr}
-use Prim.Native.Nat.{ℕ, zero, suc, _+_, _≤_, _<_, max}
-use native.Mathlib.Nat.{le-trans}
+use Prim.Native.Nat.{ℕ, zero, suc, _≤_, _<_, max}
 use native.Mathlib.Omega.{arith}
 use lib.Dec.{eqb, lit<}
 use lib.IntN.{ℤ, pos, negsuc}
-use Rattle.std.proofs.shelf.Tests.{both-ways, and-from, and-parts, and-left, and-right, or-cases, or-left, or-right, or-parts, not-true, not-false, not-from-false, true≢false, cases-bool, cases-eq, eq-eqb, ne-eqb, eqb-true, cond-true}
+use Rattle.std.proofs.shelf.Tests.{both-ways, and-from, and-parts, or-cases, or-left, or-right, not-true, not-from-false, true≢false, cases-bool, cases-eq, eq-eqb, ne-eqb, eqb-true, cond-true}
 use Rattle.std.proofs.shelf.Ways.{same-from-decides}
 use Rattle.std.specs.Options.{mapped}
 use Rattle.std.specs.declared.option.Option.{Option}
@@ -17,7 +16,7 @@ use Rattle.points.specs.declared.set.PointSet.{PointSet}
 use Rattle.points.proofs.Members.{member-joined, member-without, member-single, member-positive, member-small, empty-decides, subset-decides, some-not-empty}
 use Rattle.points.proofs.Sizes.{member-last, greatest-below, some-member, some-decides}
 use Rattle.statements.specs.Kind.{Sound, Exact}
-use Rattle.statements.specs.Literals.{names, trueIn, clear, opposed, resolvent}
+use Rattle.statements.specs.Literals.{names, trueIn, opposed, resolvent}
 use Rattle.statements.specs.Clauses.{clauseCore, clauseKind, clauseOf, Fits, named, trueAt}
 use Rattle.statements.specs.declared.clause.Clause.{Clause}
 use Rattle.statements.specs.declared.literals.LiteralSet.{LiteralSet}

@@ -1,16 +1,14 @@
 -- Sets of literals by their literals. Assumes nothing.
-use mathlib.Core.Path.{_≡_, refl, sym, ap, ap₂, _∙_}
-use mathlib.Core.Bool.{Bool, true, false, Bool-set, _&&_}
+use mathlib.Core.Path.{_≡_, refl, sym, ap, _∙_}
+use mathlib.Core.Bool.{Bool, true, false, Bool-set}
 use mathlib.Core.HLevel.{isProp→PathP}
-use mathlib.Core.Logic.{_⊎_, inl, inr}
-use Prim.Native.Nat.{ℕ, zero, suc, _+_, _≤_}
-use native.Mathlib.Omega.{arith}
+use Prim.Native.Nat.{ℕ}
 use Rattle.std.proofs.shelf.Tests.{both-ways, and-from, true≢false}
 use Rattle.std.specs.declared.option.Option.{Option}
 use Rattle.std.specs.declared.option.Option.the-variants.{Some, None}
 use Rattle.points.specs.Sets.{member, common, isEmpty}
 use Rattle.points.specs.declared.set.PointSet.{PointSet}
-use Rattle.points.proofs.Members.{member-common, empty-decides, some-not-empty}
+use Rattle.points.proofs.Members.{member-common, empty-decides}
 use Rattle.statements.specs.Literals.{clear, clearBy}
 use Rattle.statements.specs.declared.literals.LiteralSet.{LiteralSet}
 
@@ -72,7 +70,3 @@ none-by y n false e h = refl
 pub clear-none : (y n : PointSet) → isEmpty (common y n) ≡ false → clear y n ≡ None
 unfolding clear
 clear-none y n h = none-by y n (isEmpty (common y n)) refl h
-
-pub clear-both : (y n : PointSet) (p : ℕ) → member y p ≡ true → member n p ≡ true → clear y n ≡ None
-clear-both y n p hy hn =
-    clear-none y n (some-not-empty (common y n) p (member-common y n p ∙ and-from (member y p) (member n p) hy hn))

@@ -9,9 +9,9 @@ use native.Mathlib.Omega.{arith}
 use lib.Dec.{eqb, leb}
 use lib.ListN.{length, getD, take}
 use lib.Seq.{take-all}
-use lib.IntN.{ℤ, pos, negsuc, natAbs, negℤ}
+use lib.IntN.{ℤ, pos, negsuc, negℤ}
 use Rattle.std.proofs.shelf.Lists.{take-more}
-use Rattle.std.proofs.shelf.Tests.{and-parts, and-from, and-left, and-right, or-cases, or-left, or-right, leb-true, le-leb, eqb-true, eq-eqb, cases-bool, cond-true, cond-false, both-ways, true≢false}
+use Rattle.std.proofs.shelf.Tests.{and-parts, and-from, and-left, and-right, or-cases, leb-true, le-leb, eqb-true, cases-bool, cond-true, cond-false, true≢false}
 use Rattle.std.proofs.shelf.Ways.{tells}
 use Rattle.std.specs.Options.{okOr}
 use Rattle.std.specs.Results.{Cases, isErr}

@@ -1,10 +1,10 @@
 -- What a kind of statement answers, and the laws that it keeps. An assignment says yes or no to every point, and is a function
 -- here; S is the type of the statements. Assumes nothing.
 use mathlib.Core.Path.{_≡_}
-use mathlib.Core.Bool.{Bool, true, false}
+use mathlib.Core.Bool.{Bool, true}
 use Prim.Native.Nat.{ℕ, _<_, _≤_, max}
 use Rattle.std.specs.declared.option.Option.{Option}
-use Rattle.std.specs.declared.option.Option.the-variants.{Some, None}
+use Rattle.std.specs.declared.option.Option.the-variants.{Some}
 
 -- what checking a refutation asks
 pub record Core (S : Type 0) : Type 0 where

@@ -3,7 +3,7 @@ ghost use Prim.Native.Nat.{_≤_, _<_};
 ghost use Rattle.std.specs.Results.{Cases};
 ghost use Rattle.std.specs.declared.option.Option.the-variants.{None};
 ghost use Rattle.cases.specs.Filing.{Opened, Files};
-ghost use Rattle.cases.specs.Refusals.{openRefusal, fileRefusal};
+ghost use Rattle.cases.specs.Refusals.{openRefusal};
 ghost use Rattle.cases.specs.declared.fault.FileFault.the-variants.{Beyond};
 use super::OpenCase;
 use crate::fault::FileFault;

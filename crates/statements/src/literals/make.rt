@@ -1,5 +1,5 @@
 // Sets of literals from points and from signed numbers.
-ghost use mathlib.Core.Bool.{true, false, cond, _||_};
+ghost use mathlib.Core.Bool.{true, cond, _||_};
 ghost use mathlib.Core.List.{[], _∷_};
 ghost use mathlib.Core.Path.{_≡_};
 ghost use Prim.Native.Nat.{ℕ};

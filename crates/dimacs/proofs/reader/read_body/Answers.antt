@@ -1,4 +1,4 @@
-use Rattle.dimacs.proofs.ReadLaws.{new-ready, new-progress, at-end}
+use Rattle.dimacs.proofs.ReadLaws.{new-ready}
 use Rattle.dimacs.proofs.reader.read_body.Needs as need
 
 pub tokens-requires : need.tokens-requires

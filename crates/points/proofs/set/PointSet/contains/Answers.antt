@@ -1,7 +1,6 @@
-use mathlib.Core.Path.{_≡_, sym, ap, _∙_}
-use mathlib.Core.Bool.{Bool, not}
-use Rattle.points.specs.Sets.{common, single, isEmpty}
-use Rattle.points.specs.declared.set.PointSet.{PointSet}
+use mathlib.Core.Path.{ap, _∙_}
+use mathlib.Core.Bool.{not}
+use Rattle.points.specs.Sets.{common, isEmpty}
 use Rattle.points.proofs.Members.{contains-single}
 use Rattle.points.proofs.set.PointSet.contains.Needs as need
 

@@ -1,5 +1,5 @@
-use mathlib.Core.Path.{_≡_, refl, ap₂, _∙_}
-use Rattle.points.specs.Sets.{none, common, isEmpty}
+use mathlib.Core.Path.{ap₂, _∙_}
+use Rattle.points.specs.Sets.{common, isEmpty}
 use Rattle.statements.specs.Literals.{bare}
 use Rattle.statements.proofs.LiteralLaws.{same-literals}
 use Rattle.statements.proofs.literals.LiteralSet.empty.Needs as need

@@ -1,14 +1,9 @@
-use mathlib.Core.Path.{_≡_, sym, ap, ap₂, subst, _∙_}
-use mathlib.Core.List.{List}
-use lib.IntN.{ℤ}
+use mathlib.Core.Path.{_≡_, sym, ap, subst, _∙_}
 use Rattle.std.proofs.shelf.Results.{err-from-errBy}
 use Rattle.std.specs.Options.{okOr}
 use Rattle.std.specs.declared.option.Option.{Option}
-use Rattle.std.specs.declared.result.Result.{Result}
-use Rattle.std.specs.declared.result.Result.the-variants.{Ok, Err}
-use Rattle.statements.specs.Literals.{clear}
+use Rattle.std.specs.declared.result.Result.the-variants.{Err}
 use Rattle.statements.specs.Making.{made}
-use Rattle.statements.specs.declared.fault.MakeFault.{MakeFault}
 use Rattle.statements.specs.declared.fault.MakeFault.the-variants.{Opposed}
 use Rattle.statements.specs.declared.literals.LiteralSet.{LiteralSet}
 use Rattle.statements.proofs.MakeLaws.{Made, made-law, made-refused, made-sorted}

@@ -1,5 +1,5 @@
 use mathlib.Core.Path.{_≡_, refl, sym, ap, subst, _∙_}
-use mathlib.Core.Bool.{true, false, _||_}
+use mathlib.Core.Bool.{true, _||_}
 use Prim.Native.Nat.{_≤_}
 use mir.Syntax.{w32}
 use mir.Val.{toZ, ofZ}
@@ -11,7 +11,6 @@ use Rattle.std.proofs.shelf.Results.{err-from-errBy}
 use Rattle.std.specs.declared.result.Result.the-variants.{Err}
 use Rattle.statements.specs.Literals.{names, sameNumber, signed}
 use Rattle.statements.specs.Making.{isLiteral, extended}
-use Rattle.statements.specs.declared.literals.LiteralSet.{LiteralSet}
 use Rattle.statements.proofs.MakeLaws.{refused-alone, literal-number}
 use Rattle.dimacs.specs.Steps.{Adds}
 use Rattle.dimacs.specs.declared.fault.Cause.the-variants.{Make}

@@ -1,3 +1,0 @@
-// Tests of the reader on tables of texts.
-#[cfg(test)]
-mod tests;

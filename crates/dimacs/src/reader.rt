@@ -1,6 +1,7 @@
 mod body;
 
 ghost use mathlib.Core.Path.{_≡_};
+ghost use lib.Dec.{ltb};
 ghost use lib.ListN.{length, drop};
 ghost use Rattle.cases.specs.Filing.{Opened};
 ghost use Rattle.lexer.specs.Text.{tokensFrom};
@@ -29,7 +30,7 @@ pub fn read(text: &[u8], table: &mut [Clause]) -> Result<OpenCase, Fault>
     ensures back { λ _. ⌜ ReadsBack ⌝ }
     ensures example { λ _. ⌜ Example ⌝ }
 {
-    if text.len() > MOST_BYTES {
+    if is_too_long(text) {
         return Err(Fault {
             cause: Cause::Long,
             place: MOST_BYTES,
@@ -57,6 +58,13 @@ pub fn read(text: &[u8], table: &mut [Clause]) -> Result<OpenCase, Fault>
             place: start + header.points_at,
         }),
     }
+}
+
+// Whether the text has more bytes than are read.
+fn is_too_long(text: &[u8]) -> bool
+    ensures { λ r. ⌜ r ≡ ltb 16384 (length (now (text .entry))) ⌝ }
+{
+    text.len() > MOST_BYTES
 }
 
 // Files the clauses of the tokens from `from` on into the new case.

@@ -13,7 +13,7 @@ fn is_numeral_length(count: usize) -> bool
 }
 
 // The value of a numeral, which is one to five digits.
-pub fn numeral(digits: &[u8]) -> Option<u32>
+pub(crate) fn numeral(digits: &[u8]) -> Option<u32>
     ensures { λ r. ⌜ r ≡ numeralOf (now (digits .entry)) ⌝ }
 {
     if !is_numeral_length(digits.len()) {

@@ -25,7 +25,7 @@ pub struct Span {
 
 impl Cut {
     // Whether `byte` is one of the bytes that cut.
-    pub fn cuts(self, byte: u8) -> bool
+    pub(crate) fn cuts(self, byte: u8) -> bool
         ensures { λ r. ⌜ r ≡ cutsAt self byte ⌝ }
     {
         match self {
@@ -37,7 +37,7 @@ impl Cut {
 }
 
 // Where the piece that begins at `from` ends: at the first byte that cuts, or at the end of the text.
-pub fn piece_end(text: &[u8], from: usize, cut: Cut) -> usize
+pub(crate) fn piece_end(text: &[u8], from: usize, cut: Cut) -> usize
     ensures value { λ r. ⌜ r ≡ from + run (cutsAt cut) (drop from (now (text .entry))) ⌝ }
     ensures inside { λ r. ⌜ (from ≤ length (now (text .entry)) → r ≤ length (now (text .entry))) ⌝ }
     ensures stops { λ r. ⌜ (r < length (now (text .entry)) → cutsAt cut (getD (now (text .entry)) r 0) ≡ true) ⌝ }
@@ -51,7 +51,7 @@ pub fn piece_end(text: &[u8], from: usize, cut: Cut) -> usize
 }
 
 // Where the bytes that cut end, from `from` on: at the first other byte, or at the end of the text.
-pub fn skip(text: &[u8], from: usize, cut: Cut) -> usize
+pub(crate) fn skip(text: &[u8], from: usize, cut: Cut) -> usize
     ensures value { λ r. ⌜ r ≡ from + run (λ b. not (cutsAt cut b)) (drop from (now (text .entry))) ⌝ }
     ensures inside { λ r. ⌜ (from ≤ length (now (text .entry)) → r ≤ length (now (text .entry))) ⌝ }
     ensures stops { λ r. ⌜ (r < length (now (text .entry)) → cutsAt cut (getD (now (text .entry)) r 0) ≡ false) ⌝ }

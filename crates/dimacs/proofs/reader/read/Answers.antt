@@ -3,6 +3,7 @@ use mathlib.Core.Path.{_≡_, refl, sym, ap, subst, _∙_}
 use Prim.Native.Nat.{ℕ, _+_, _≤_}
 use native.Mathlib.Omega.{arith}
 use lib.ListN.{length, drop}
+use Rattle.std.proofs.shelf.Tests.{ltb-true, ltb-false}
 use Rattle.std.specs.declared.result.Result.the-variants.{Err}
 use Rattle.cases.specs.Refusals.{openRefusal}
 use Rattle.cases.specs.declared.fault.OpenFault.{OpenFault}
@@ -27,20 +28,20 @@ refusal text table e at is =
     let rows : table ≡ over (reading (length table) text .clauses) table = sym (ap (λ (x : Reading). over (x .clauses) table) is) in
     record { answer = answer; judged = judged (length table) text table table (Err (record { cause = e; place = at })) answer rows; rows = rows }
 
-pub returns-then-text-gt-MOST-BYTES : need.returns-then-text-gt-MOST-BYTES
-returns-then-text-gt-MOST-BYTES c =
-    let e = reading-long (length (c .args .table .now)) (c .args .text .now) (c .if-text-gt-MOST-BYTES .taken) in
+pub returns-then-is-too-long : need.returns-then-is-too-long
+returns-then-is-too-long c =
+    let e = reading-long (length (c .args .table .now)) (c .args .text .now) (ltb-true 16384 (length (c .args .text .now)) (sym (c .is-too-long .ensures) ∙ c .if-is-too-long .taken)) in
     record { reads = refusal (c .args .text .now) (c .args .table .now) Long 16384 e; back = reads-back; example = example }
 
 pub returns-in-rest : need.returns-in-rest
 returns-in-rest c =
-    let e = reading-comments (length (c .args .table .now)) (c .args .text .now) (c .if-text-gt-MOST-BYTES .left) (c .in-rest .ensures tt) in
+    let e = reading-comments (length (c .args .table .now)) (c .args .text .now) (ltb-false 16384 (length (c .args .text .now)) (sym (c .is-too-long .ensures) ∙ c .if-is-too-long .left)) (c .in-rest .ensures tt) in
     record { reads = refusal (c .args .text .now) (c .args .table .now) BadHeader (length (c .args .text .now)) e; back = reads-back; example = example }
 
 pub returns-in-rest-parse : need.returns-in-rest-parse
 returns-in-rest-parse c =
     let e =
-    reading-bad (length (c .args .table .now)) (c .args .text .now) (c .if-text-gt-MOST-BYTES .left) (c .in-Some .field-0 .start) (c .in-Some .field-0 .end) (c .in-Some .ensures tt)
+    reading-bad (length (c .args .table .now)) (c .args .text .now) (ltb-false 16384 (length (c .args .text .now)) (sym (c .is-too-long .ensures) ∙ c .if-is-too-long .left)) (c .in-Some .field-0 .start) (c .in-Some .field-0 .end) (c .in-Some .ensures tt)
     (sym (c .in-rest-parse .ensures tt .value)) in
     record { reads = refusal (c .args .text .now) (c .args .table .now) BadHeader (c .in-Some .field-0 .start) e; back = reads-back; example = example }
 
@@ -56,7 +57,7 @@ returns-in-Ok c =
     let e : body (case .points) (d .clauses) (length table) (length text) (tokensFrom end (drop end text)) begun ≡ reading (length table) text =
     ap (λ (n : ℕ). body n (d .clauses) (length table) (length text) (tokensFrom end (drop end text)) begun) points
     ∙ sym
-    (reading-body (length table) text (c .if-text-gt-MOST-BYTES .left) start end (c .in-Some .ensures tt) d (sym (c .in-Some-parse .ensures tt .value))
+    (reading-body (length table) text (ltb-false 16384 (length (c .args .text .now)) (sym (c .is-too-long .ensures) ∙ c .if-is-too-long .left)) start end (c .in-Some .ensures tt) d (sym (c .in-Some-parse .ensures tt .value))
     (omega (arith, points, case .some)) (omega (arith, points, case .few))) in
     let answer = subst (λ (x : Reading). Answers x (c .read-body .result)) e (c .read-body .ensures .answer) in
     let rows = c .read-body .ensures .rows ∙ ap (λ (x : Reading). over (x .clauses) table) e in
@@ -74,7 +75,7 @@ returns-in-Err c =
     let start = c .in-Some .field-0 .start in
     let why = refused-points (c .in-Err .fault) (d .points) (c .in-Err .ensures tt) in
     let e =
-    reading-points (length (c .args .table .now)) (c .args .text .now) (c .if-text-gt-MOST-BYTES .left) start (c .in-Some .field-0 .end) (c .in-Some .ensures tt) d
+    reading-points (length (c .args .table .now)) (c .args .text .now) (ltb-false 16384 (length (c .args .text .now)) (sym (c .is-too-long .ensures) ∙ c .if-is-too-long .left)) start (c .in-Some .field-0 .end) (c .in-Some .ensures tt) d
     (sym (c .in-Some-parse .ensures tt .value)) (why .1) in
     let reads =
     refusal (c .args .text .now) (c .args .table .now) (c .into .result) (start + d .«points_at»)

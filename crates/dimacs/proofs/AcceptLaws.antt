@@ -39,7 +39,7 @@ use Rattle.dimacs.specs.Steps.{Answers}
 use Rattle.dimacs.specs.declared.fault.Cause.the-variants.{Long, Count, Open, File}
 use Rattle.dimacs.specs.declared.fault.Fault.{Fault}
 use Rattle.dimacs.proofs.DenoteLaws.{accepted-case, not-ok}
-use Rattle.dimacs.proofs.StepLaws.{added, token-end, token-literal}
+use Rattle.dimacs.proofs.StepLaws.{added, point-size, token-end, token-literal}
 
 -- ---- the numbers of a group
 
@@ -47,7 +47,7 @@ use Rattle.dimacs.proofs.StepLaws.{added, token-end, token-literal}
 made-names : (zs : List ℤ) (s : LiteralSet) → made zs ≡ Ok s → (z : ℤ) → names s z ≡ listed zs z
 made-names zs s h = subst (Made zs) h (made-law zs)
 
-listed-append : (xs ys : List ℤ) (z : ℤ) → listed (xs ++ ys) z ≡ (listed xs z || listed ys z)
+pub listed-append : (xs ys : List ℤ) (z : ℤ) → listed (xs ++ ys) z ≡ (listed xs z || listed ys z)
 unfolding listed
 listed-append [] ys z = refl
 listed-append (x ∷ xs) ys z = ap (λ (t : Bool). sameNumber z x || t) (listed-append xs ys z) ∙ or-assoc (sameNumber z x) (listed xs z) (listed ys z)
@@ -59,10 +59,6 @@ listed-append (x ∷ xs) ys z = ap (λ (t : Bool). sameNumber z x || t) (listed-
 same-self : (z : ℤ) → sameNumber z z ≡ true
 same-self (pos n) = eq-eqb n n refl
 same-self (negsuc n) = eq-eqb n n refl
-
-point-size : (z : ℤ) → pointOf z ≡ natAbs z
-point-size (pos p) = refl
-point-size (negsuc k) = refl
 
 -- no set has a literal and its denial
 not-both : (s : LiteralSet) (z : ℤ) → isLiteral z ≡ true → names s z ≡ true → names s (negℤ z) ≡ true → ⊥

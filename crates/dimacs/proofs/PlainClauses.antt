@@ -16,7 +16,7 @@ use Rattle.points.specs.Sets.{member, greatest}
 use Rattle.points.proofs.Members.{zero-none, same-members}
 use Rattle.points.proofs.Sizes.{top, member-last}
 use Rattle.statements.specs.Clauses.{named}
-use Rattle.statements.specs.Literals.{names, sameNumber, listed}
+use Rattle.statements.specs.Literals.{names, listed}
 use Rattle.statements.specs.Making.{isLiteral, areLiterals, made}
 use Rattle.statements.specs.declared.clause.Clause.{Clause}
 use Rattle.statements.specs.declared.fault.MakeFault.{MakeFault}
@@ -27,6 +27,7 @@ use Rattle.statements.proofs.LiteralLaws.{never-both, same-literals}
 use Rattle.statements.proofs.MakeLaws.{Made, made-law, literals-append}
 use Rattle.dimacs.specs.Denoting.{Spells, nothing, clause}
 use Rattle.dimacs.specs.Plain.{decimalOf, literalText, literalsText, clauseLines}
+use Rattle.dimacs.proofs.AcceptLaws.{listed-append}
 use Rattle.dimacs.proofs.PlainNumbers.{decimal-some, decimal-solid, decimal-number, minus-number}
 use Rattle.dimacs.proofs.PlainWords.{Writes, writes-none, writes-more}
 
@@ -88,15 +89,6 @@ all-literals c (suc k) h =
     ∙ and-from _ _ (all-literals c k (omega arith)) (each-literal k (member (c .literals .yes) (suc k)) (member (c .literals .no) (suc k)) h)
 
 -- ---- what is listed
-
-listed-append : (xs ys : List ℤ) (z : ℤ) → listed (xs ++ ys) z ≡ (listed xs z || listed ys z)
-unfolding listed
-listed-append [] ys z = refl
-listed-append (x ∷ xs) ys z = ap (λ (t : Bool). sameNumber z x || t) (listed-append xs ys z) ∙ or-assoc (sameNumber z x) (listed xs z) (listed ys z)
-  where
-    or-assoc : (x y z : Bool) → (x || (y || z)) ≡ ((x || y) || z)
-    or-assoc true y z = refl
-    or-assoc false y z = refl
 
 or-and : (x : Bool) → (x || false) ≡ (x && true)
 or-and true = refl

@@ -91,7 +91,7 @@ same-number (pos m) (negsuc n) h = absurd (true≢false (sym h))
 same-number (negsuc m) (pos n) h = absurd (true≢false (sym h))
 same-number (negsuc m) (negsuc n) h = ap negsuc (eqb-true m n h)
 
-point-size : (z : ℤ) → pointOf z ≡ natAbs z
+pub point-size : (z : ℤ) → pointOf z ≡ natAbs z
 point-size (pos p) = refl
 point-size (negsuc k) = refl
 

@@ -248,6 +248,9 @@ combined s t r p h = go (opposed (s .literals) (t .literals) p) refl
         some None = true
         some (Some d) = false
 
+pub combined-resolves : (s t r : Clause) (p : ℕ) → clauseCore .combine s t p ≡ Some r → Resolves (s .literals) (t .literals) (r .literals) p
+combined-resolves s t r p h = let c = combined s t r p h in resolves (s .literals) (t .literals) (r .literals) p (c .oppose) (c .gives)
+
 -- what combine gives on an opposed point
 pub combine-opposed : (s t : Clause) (p : ℕ) → opposed (s .literals) (t .literals) p ≡ true
     → (o : Option LiteralSet) → o ≡ resolvent (s .literals) (t .literals) p → mapped clauseOf o ≡ clauseCore .combine s t p
@@ -261,7 +264,7 @@ combine-sound s t r p h a fs ft = go (cases-eq (pointOf (fs .0)) p) (cases-eq (p
     c = combined s t r p h
 
     v : Resolves (s .literals) (t .literals) (r .literals) p
-    v = resolves (s .literals) (t .literals) (r .literals) p (c .oppose) (c .gives)
+    v = combined-resolves s t r p h
 
     go : (pointOf (fs .0) ≡ p) ⊎ (pointOf (fs .0) ≡ p → ⊥) → (pointOf (ft .0) ≡ p) ⊎ (pointOf (ft .0) ≡ p → ⊥) → Fits r a
     go (inr ne) _ = (fs .0, v .keeps (fs .0) (or-left (names (s .literals) (fs .0)) (names (t .literals) (fs .0)) (fs .1)) ne, fs .2)
@@ -282,11 +285,8 @@ named-literal c p m = go p (or-cases (member (c .literals .yes) p) (member (c .l
 combine-last : (s t r : Clause) (p : ℕ) → clauseCore .combine s t p ≡ Some r → greatest (named r) ≤ max (greatest (named s)) (greatest (named t))
 combine-last s t r p h = greatest-below (named r) (max (greatest (named s)) (greatest (named t))) bound
   where
-    c : Combined s t r p
-    c = combined s t r p h
-
     v : Resolves (s .literals) (t .literals) (r .literals) p
-    v = resolves (s .literals) (t .literals) (r .literals) p (c .oppose) (c .gives)
+    v = combined-resolves s t r p h
 
     side : (z : ℤ) → (names (s .literals) z ≡ true) ⊎ (names (t .literals) z ≡ true) → pointOf z ≤ max (greatest (named s)) (greatest (named t))
     side z (inl n) = let l = member-last (named s) (pointOf z) (names-point s z n) in omega arith

@@ -11,21 +11,22 @@ use Rattle.lexer.specs.Numerals.{number_of}
 use Rattle.lexer.specs.Text.{Piece, lines_from, tokens}
 use Rattle.points.specs.Sets.{greatest}
 use Rattle.points.proofs.Sizes.{member-last}
-use Rattle.literals.specs.Literals.{named, bare, names, same_number, listed, point_of}
-use Rattle.statements.specs.Clauses.{clause_of}
-use Rattle.literals.specs.Making.{is_literal, are_literals, made, extended}
+use Rattle.statements.specs.Clauses.{clause_of, named}
+use Rattle.statements.specs.Literals.{bare, names, same_number, listed}
+use Rattle.statements.specs.Making.{is_literal, are_literals, made, extended}
 use Rattle.statements.specs.declared.clause.Clause.{Clause}
-use Rattle.literals.specs.declared.fault.MakeFault.{MakeFault}
-use Rattle.literals.specs.declared.set.LiteralSet.{LiteralSet}
-use Rattle.literals.proofs.LiteralLaws.{names_point, never_both}
-use Rattle.literals.proofs.MakeLaws.{Made, Extended, made_law, extended_law, made_none, made_push, made_of_numbers, literals_append}
+use Rattle.statements.specs.declared.fault.MakeFault.{MakeFault}
+use Rattle.statements.specs.declared.literals.LiteralSet.{LiteralSet}
+use Rattle.statements.specs.ClauseLaws.{names-point, point_of}
+use Rattle.statements.specs.LiteralLaws.{never_both}
+use Rattle.statements.proofs.MakeLaws.{Made, Extended, made_law, extended_law, made_none, made_push, made_of_numbers, literals_append}
 use Rattle.dimacs.specs.Denoting.{and_then, numbers_of, Spells, nothing, clause, OnPoints, Case, Judged}
 use Rattle.dimacs.specs.Reading.{Progress, Reading, accepted, refused, begun, go_on, with_pending, body, from_line, from_header, reading, over}
 use Rattle.dimacs.specs.Steps.{Answers}
 use Rattle.dimacs.specs.declared.fault.Cause.TheVariants.{Long, Count, Open, File}
 use Rattle.dimacs.specs.declared.fault.Fault.{Fault}
 use Rattle.dimacs.proofs.DenoteLaws.{accepted_case, not_ok}
-use Rattle.dimacs.proofs.StepLaws.{added, point_size, token_end, token_literal}
+use Rattle.dimacs.proofs.StepLaws.{added, point-size, token_end, token_literal}
 
 -- ---- the numbers of a group
 
@@ -67,8 +68,8 @@ module _ (xs : List ℤ) (y : ℤ) (ys : List ℤ) (s target : LiteralSet) (befo
       ∙ listed-append xs (y ∷ ys) y
       ∙ or_right (listed xs y) (listed (y ∷ ys) y) (or_left (same_number y y) (listed ys y) (same_self y))
 
-  inner_known : (n : ℕ) → greatest (named target) ≤ n → nat_abs y ≤ n
-  inner_known n h = omega (arith, h, member-last (named target) (point_of y) (names_point target y inner_named), point_size y)
+  inner_known : (n : ℕ) → greatest (named (clause_of target)) ≤ n → nat_abs y ≤ n
+  inner_known n h = omega (arith, h, member-last (named (clause_of target)) (point_of y) (names-point (clause_of target) y inner_named), point-size y)
 
   inner_extended : (t : LiteralSet) × (extended s y ≡ Ok t)
   inner_extended = go (extended s y) refl

@@ -7,11 +7,11 @@ use Rattle.lexer.specs.Headers.{headed, header_of}
 use Rattle.lexer.specs.Text.{Piece, lines_from, tokens}
 use Rattle.lexer.specs.declared.headers.Header.{Header}
 use Rattle.points.specs.Sets.{greatest}
-use Rattle.literals.specs.Literals.{named, bare, names, same_number}
-use Rattle.statements.specs.Clauses.{clause_of}
-use Rattle.literals.specs.Making.{made}
+use Rattle.statements.specs.Clauses.{clause_of, named}
+use Rattle.statements.specs.Literals.{bare, names, same_number}
+use Rattle.statements.specs.Making.{made}
 use Rattle.statements.specs.declared.clause.Clause.{Clause}
-use Rattle.literals.proofs.MakeLaws.{Extended, extended_law, made_none, made_push}
+use Rattle.statements.proofs.MakeLaws.{Extended, extended_law, made_none, made_push}
 use Rattle.dimacs.specs.Denoting.{and_then, numbers_of, Spells, nothing, clause, OnPoints, Case}
 use Rattle.dimacs.specs.Reading.{Progress, Reading, accepted, refused, begun, at_end, go_on, token, body, from_header, from_line, reading}
 use Rattle.dimacs.specs.declared.fault.Cause.{Cause}
@@ -27,7 +27,7 @@ module _ (n announced rows end : ℕ) where
   -- the numbers zs of the clause that is not finished
   pub record Part (st : Progress) (zs : List ℤ) : Type 0 where
     pub group : made zs ≡ Ok st.pending
-    pub known : greatest (named st.pending) ≤ n
+    pub known : greatest (named (clause_of st.pending)) ≤ n
     pub unfinished : (zs ≡ []) ⊎ (length st.filed < announced)
     pub room : length st.filed ≤ usable rows
 

@@ -6,14 +6,16 @@ use Rattle.lexer.specs.Numerals.{numeral_of, number_of}
 use Rattle.points.specs.Sets.{member, greatest}
 use Rattle.points.proofs.Members.{zero_none, same_members}
 use Rattle.points.proofs.Sizes.{top, member-last}
-use Rattle.literals.specs.Literals.{named, names, listed}
-use Rattle.literals.specs.Making.{is_literal, are_literals, made}
+use Rattle.statements.specs.Clauses.{named}
+use Rattle.statements.specs.Literals.{names, listed}
+use Rattle.statements.specs.Making.{is_literal, are_literals, made}
 use Rattle.statements.specs.declared.clause.Clause.{Clause}
-use Rattle.literals.specs.declared.fault.MakeFault.{MakeFault}
-use Rattle.literals.specs.declared.fault.MakeFault.TheVariants.{Magnitude, Opposed}
-use Rattle.literals.specs.declared.set.LiteralSet.{LiteralSet}
-use Rattle.literals.proofs.LiteralLaws.{names_point, never_both, same_literals}
-use Rattle.literals.proofs.MakeLaws.{Made, made_law, literals_append}
+use Rattle.statements.specs.declared.fault.MakeFault.{MakeFault}
+use Rattle.statements.specs.declared.fault.MakeFault.TheVariants.{Magnitude, Opposed}
+use Rattle.statements.specs.declared.literals.LiteralSet.{LiteralSet}
+use Rattle.statements.specs.ClauseLaws.{names-point}
+use Rattle.statements.specs.LiteralLaws.{never_both, same_literals}
+use Rattle.statements.proofs.MakeLaws.{Made, made_law, literals_append}
 use Rattle.dimacs.specs.Denoting.{Spells, nothing, clause}
 use Rattle.dimacs.specs.Plain.{decimal_of, literal_text, literals_text, clause_lines}
 use Rattle.dimacs.proofs.AcceptLaws.{listed-append}
@@ -135,18 +137,18 @@ listed_below c (suc k) z =
 module _ (c : Clause) where
   -- the numbers on the line of the clause, before its 0
   abbrev own_numbers : List ℤ
-  own_numbers = literals_of c (greatest (named c.literals))
+  own_numbers = literals_of c (greatest (named c))
 
   own_listed : (z : ℤ) → listed own_numbers z ≡ names c.literals z
-  own_listed z = listed_below c (greatest (named c.literals)) z ∙ inside (leb (nat_abs z) (greatest (named c.literals))) (names c.literals z) (λ h. le-leb (nat_abs z) (greatest (named c.literals)) (bound z h))
+  own_listed z = listed_below c (greatest (named c)) z ∙ inside (leb (nat_abs z) (greatest (named c))) (names c.literals z) (λ h. le-leb (nat_abs z) (greatest (named c)) (bound z h))
     where
       inside : (s t : Bool) → (t ≡ true → s ≡ true) → (s && t) ≡ t
       inside s true h = and_from s true (h refl) refl
       inside s false h = and_right s false refl
 
-      bound : (z : ℤ) → names c.literals z ≡ true → nat_abs z ≤ greatest (named c.literals)
-      bound (pos p) h = member-last (named c.literals) p (names_point c.literals (pos p) h)
-      bound (negsuc k) h = member-last (named c.literals) (suc k) (names_point c.literals (negsuc k) h)
+      bound : (z : ℤ) → names c.literals z ≡ true → nat_abs z ≤ greatest (named c)
+      bound (pos p) h = member-last (named c) p (names-point c (pos p) h)
+      bound (negsuc k) h = member-last (named c) (suc k) (names-point c (negsuc k) h)
 
   -- so the clause is made of its numbers
   own_made : made own_numbers ≡ Ok c.literals
@@ -161,7 +163,7 @@ module _ (c : Clause) where
           denials : (p : ℕ) → member s.no p ≡ member c.literals.no p
           denials zero = zero_none s.no ∙ sym (zero_none c.literals.no)
           denials (suc k) = law (negsuc k) ∙ own_listed (negsuc k)
-      go (Err Magnitude) law = absurd (both_ways (are_literals own_numbers) law (all_literals c (greatest (named c.literals)) (top (named c.literals)).small))
+      go (Err Magnitude) law = absurd (both_ways (are_literals own_numbers) law (all_literals c (greatest (named c)) (top (named c)).small))
       go (Err Opposed) (lit, (p, y, n)) = absurd (never_both c.literals (suc p) (sym (own_listed (pos (suc p))) ∙ y) (sym (own_listed (negsuc p)) ∙ n))
 
 -- ---- the lines of the clauses
@@ -180,7 +182,7 @@ pub lines_write : (cs : List Clause) → Writes (clause_lines cs) (line_numbers 
 unfolding clause_lines line_numbers
 lines_write [] = writes-none
 lines_write (c ∷ cs) =
-    let n = greatest (named c.literals) in
-    let few : n ≤ 99999 = omega (arith, (top (named c.literals)).small) in
+    let n = greatest (named c) in
+    let few : n ≤ 99999 = omega (arith, (top (named c)).small) in
     subst (λ bs. Writes bs (own_numbers c ++ pos 0 ∷ line_numbers cs)) (sym (append_assoc (literals_text c n) (48 ∷ 10 ∷ []) (clause_lines cs)))
     (writes_literals c n (48 ∷ 10 ∷ clause_lines cs) (pos 0 ∷ line_numbers cs) few (writes_zero (clause_lines cs) (line_numbers cs) (lines_write cs)))

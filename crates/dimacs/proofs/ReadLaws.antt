@@ -8,10 +8,10 @@ use Rattle.lexer.specs.Headers.{headed, header_of, HeaderAt}
 use Rattle.lexer.specs.Text.{Piece, lines_from, tokens, tokens_from}
 use Rattle.lexer.specs.declared.headers.Header.{Header}
 use Rattle.points.specs.Sets.{greatest}
-use Rattle.literals.specs.Literals.{named, bare}
-use Rattle.statements.specs.Clauses.{clause_of}
+use Rattle.statements.specs.Clauses.{clause_of, named}
+use Rattle.statements.specs.Literals.{bare}
 use Rattle.statements.specs.declared.clause.Clause.{Clause}
-use Rattle.literals.specs.declared.set.LiteralSet.{LiteralSet}
+use Rattle.statements.specs.declared.literals.LiteralSet.{LiteralSet}
 use Rattle.dimacs.specs.Reading.{refused, begun, body, from_header, from_line, reading}
 use Rattle.dimacs.specs.Steps.{Ready}
 use Rattle.dimacs.specs.declared.fault.Cause.TheVariants.{Long, Header as BadHeader, Open}
@@ -67,5 +67,5 @@ module _ (rows : ℕ) (text : List ℕ) where
 pub new_ready : (r : Reader) (table : List Clause) → Opened r.case.points r.case → r.literals ≡ bare → Ready r table
 new_ready r table o e = record {
   rows = omega (arith, o.none-filed);
-  known = omega (arith, ap (λ (l : LiteralSet). greatest (named l)) e ∙ bare-last);
+  known = omega (arith, ap (λ (l : LiteralSet). greatest (named (clause_of l))) e ∙ bare-last);
 }

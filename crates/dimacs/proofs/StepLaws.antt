@@ -9,20 +9,20 @@ use Rattle.cases.specs.declared.fault.FileFault.TheVariants.{Beyond, Full}
 use Rattle.lexer.specs.Numerals.{number_of}
 use Rattle.points.specs.Sets.{member, none, joined, greatest}
 use Rattle.points.proofs.Sizes.{greatest_below, member-last}
-use Rattle.literals.specs.Literals.{named, bare, names, same_number, point_of}
-use Rattle.statements.specs.Clauses.{clause_core, clause_of}
-use Rattle.literals.specs.Making.{is_literal, extended}
+use Rattle.statements.specs.Clauses.{clause_core, clause_of, named}
+use Rattle.statements.specs.Literals.{bare, names, same_number}
+use Rattle.statements.specs.Making.{is_literal, extended}
 use Rattle.statements.specs.declared.clause.Clause.{Clause}
-use Rattle.literals.specs.declared.fault.MakeFault.TheVariants.{Magnitude}
-use Rattle.literals.specs.declared.set.LiteralSet.{LiteralSet}
-use Rattle.literals.proofs.LiteralLaws.{named_literal, names_point}
+use Rattle.statements.specs.declared.fault.MakeFault.TheVariants.{Magnitude}
+use Rattle.statements.specs.declared.literals.LiteralSet.{LiteralSet}
+use Rattle.statements.specs.ClauseLaws.{named_literal, names-point, point_of}
 use Rattle.dimacs.specs.Reading.{Progress, end_token, literal_token, as_cause, with_pending, number_token, or_token, token}
 use Rattle.dimacs.specs.Steps.{progress, Ready, Steady, Steps, Adds}
 use Rattle.dimacs.specs.declared.fault.Cause.{Cause}
 use Rattle.dimacs.specs.declared.fault.Cause.TheVariants.{Token, Count, Make, File}
 use Rattle.dimacs.specs.declared.reader.body.Reader.{Reader}
 
-pub bare-last : greatest (named bare) ≡ 0
+pub bare-last : greatest (named (clause_of bare)) ≡ 0
 unfolding bare none joined greatest count_leading_zeros
 bare-last = refl
 
@@ -64,7 +64,7 @@ ended r s table after number ready a same fresh = (step, steady, next, rest, lon
     next : Ready s after
     next = record {
       rows = omega (arith, a.one_more, long, inside);
-      known = omega (arith, ap (λ (l : LiteralSet). greatest (named l)) fresh ∙ bare-last);
+      known = omega (arith, ap (λ (l : LiteralSet). greatest (named (clause_of l))) fresh ∙ bare-last);
     }
 
     rest : drop s.case.filed after ≡ drop s.case.filed table
@@ -78,22 +78,22 @@ same_number_lem (pos m) (negsuc n) h = absurd (true≢false (sym h))
 same_number_lem (negsuc m) (pos n) h = absurd (true≢false (sym h))
 same_number_lem (negsuc m) (negsuc n) h = ap negsuc (eqb-true m n h)
 
-pub point_size : (z : ℤ) → point_of z ≡ nat_abs z
-point_size (pos p) = refl
-point_size (negsuc k) = refl
+pub point-size : (z : ℤ) → point_of z ≡ nat_abs z
+point-size (pos p) = refl
+point-size (negsuc k) = refl
 
 -- a literal on a point of the case leaves the literals on points of the case
 pub added_last : (s t : LiteralSet) (z : ℤ) (n : ℕ) → ((w : ℤ) → names t w ≡ (names s w || same_number w z))
-    → greatest (named s) ≤ n → nat_abs z ≤ n → greatest (named t) ≤ n
-added_last s t z n law old new = greatest_below (named t) n bound
+    → greatest (named (clause_of s)) ≤ n → nat_abs z ≤ n → greatest (named (clause_of t)) ≤ n
+added_last s t z n law old new = greatest_below (named (clause_of t)) n bound
   where
     side : (w : ℤ) → (names s w ≡ true) ⊎ (same_number w z ≡ true) → point_of w ≤ n
-    side w (inl h) = omega (arith, member-last (named s) (point_of w) (names_point s w h))
-    side w (inr h) = omega (arith, ap point_of (same_number_lem w z h), point_size z)
+    side w (inl h) = omega (arith, member-last (named (clause_of s)) (point_of w) (names-point (clause_of s) w h))
+    side w (inr h) = omega (arith, ap point_of (same_number_lem w z h), point-size z)
 
-    bound : (p : ℕ) → member (named t) p ≡ true → p ≤ n
+    bound : (p : ℕ) → member (named (clause_of t)) p ≡ true → p ≤ n
     bound p m =
-        let l = named_literal t p m in
+        let l = named_literal (clause_of t) p m in
         subst (λ (q : ℕ). q ≤ n) l.1 (side l.0 (or_cases (names s l.0) (same_number l.0 z) (sym (law l.0) ∙ l.2)))
 
 pub added : (n : ℕ) (s t : LiteralSet) (z : ℤ) → is_literal z ≡ true → nat_abs z ≤ n → extended s z ≡ Ok t → literal_token n s z ≡ Ok t

@@ -5,11 +5,11 @@ use Rattle.cases.specs.Refusals.{usable}
 use Rattle.cases.specs.declared.fault.FileFault.TheVariants.{Beyond, Full}
 use Rattle.lexer.specs.Numerals.{number_of}
 use Rattle.statements.specs.Clauses.{clause_of}
-use Rattle.literals.specs.Literals.{bare}
-use Rattle.literals.specs.Making.{is_literal, extended}
-use Rattle.literals.specs.declared.fault.MakeFault.{MakeFault}
-use Rattle.literals.specs.declared.fault.MakeFault.TheVariants.{Magnitude}
-use Rattle.literals.specs.declared.set.LiteralSet.{LiteralSet}
+use Rattle.statements.specs.Literals.{bare}
+use Rattle.statements.specs.Making.{is_literal, extended}
+use Rattle.statements.specs.declared.fault.MakeFault.{MakeFault}
+use Rattle.statements.specs.declared.fault.MakeFault.TheVariants.{Magnitude}
+use Rattle.statements.specs.declared.literals.LiteralSet.{LiteralSet}
 use Rattle.dimacs.specs.Reading.{Progress, as_cause, literal_token, with_pending, end_token, or_token, token}
 use Rattle.dimacs.specs.declared.fault.Cause.{Cause}
 use Rattle.dimacs.specs.declared.fault.Cause.TheVariants.{Token, Count, Make, File}

@@ -8,12 +8,12 @@ use Rattle.lexer.specs.Numerals.{number_of}
 use Rattle.lexer.specs.Text.{Piece, lines_from, tokens}
 use Rattle.lexer.specs.declared.headers.Header.{Header}
 use Rattle.statements.specs.Clauses.{clause_of}
-use Rattle.literals.specs.Literals.{bare}
-use Rattle.literals.specs.Making.{is_literal, extended, make_refusal}
+use Rattle.statements.specs.Literals.{bare}
+use Rattle.statements.specs.Making.{is_literal, extended, make_refusal}
 use Rattle.statements.specs.declared.clause.Clause.{Clause}
-use Rattle.literals.specs.declared.fault.MakeFault.{MakeFault}
-use Rattle.literals.specs.declared.fault.MakeFault.TheVariants.{Magnitude}
-use Rattle.literals.specs.declared.set.LiteralSet.{LiteralSet}
+use Rattle.statements.specs.declared.fault.MakeFault.{MakeFault}
+use Rattle.statements.specs.declared.fault.MakeFault.TheVariants.{Magnitude}
+use Rattle.statements.specs.declared.literals.LiteralSet.{LiteralSet}
 use Rattle.dimacs.specs.declared.fault.Cause.{Cause}
 use Rattle.dimacs.specs.declared.fault.Cause.TheVariants.{Long, Header as BadHeader, Token, Count, Open, Make, File}
 use Rattle.dimacs.specs.declared.fault.Fault.{Fault}

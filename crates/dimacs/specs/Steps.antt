@@ -2,8 +2,7 @@
 use Rattle.std.specs.Prelude.{◌≡◌, ℕ, ◌≤◌, List, length, take, drop, ℤ, None, Ok, Err, Result, ◌≢◌}
 use Rattle.cases.specs.declared.open.OpenCase.{OpenCase}
 use Rattle.points.specs.Sets.{greatest}
-use Rattle.literals.specs.Literals.{named}
-use Rattle.statements.specs.Clauses.{clause_of}
+use Rattle.statements.specs.Clauses.{clause_of, named}
 use Rattle.statements.specs.declared.clause.Clause.{Clause}
 use Rattle.dimacs.specs.Reading.{Progress, Reading, literal_token, over}
 use Rattle.dimacs.specs.declared.fault.Cause.{Cause}
@@ -18,7 +17,7 @@ progress r table = record { filed = take r.case.filed table; pending = r.literal
 -- the rows below the count are there, and the literals are on points of the case
 pub record Ready (r : Reader) (table : List Clause) : Type 0 where
   pub rows : r.case.filed ≤ length table
-  pub known : greatest (named r.literals) ≤ r.case.points
+  pub known : greatest (named (clause_of r.literals)) ≤ r.case.points
 
 -- a step changes neither the points nor the note nor the announced number, and takes back no clause
 pub record Steady (r s : Reader) : Type 0 where
@@ -34,7 +33,7 @@ Steps step r table s after (Err e) = (step (progress r table) ≡ Err e) × (aft
 
 -- one literal more
 abbrev pub Adds : {U : Type 0} → ℤ → Reader → Reader → Result U Cause → Type 0
-Adds z r s (Ok _) = (literal_token r.case.points r.literals z ≡ Ok s.literals) × Steady r s × (s.case.filed ≡ r.case.filed) × (greatest (named s.literals) ≤ r.case.points)
+Adds z r s (Ok _) = (literal_token r.case.points r.literals z ≡ Ok s.literals) × Steady r s × (s.case.filed ≡ r.case.filed) × (greatest (named (clause_of s.literals)) ≤ r.case.points)
 Adds z r s (Err e) = literal_token r.case.points r.literals z ≡ Err e
 
 -- the tokens from a place on, up to the end of the text: the definition goes on from there as it does after them

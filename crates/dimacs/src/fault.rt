@@ -2,7 +2,7 @@ mod lower;
 mod number;
 
 use cases::{FileFault, OpenFault};
-use literals::MakeFault;
+use statements::MakeFault;
 
 // Why a text is refused.
 #[derive(Clone, Copy)]

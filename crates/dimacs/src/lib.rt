@@ -1,4 +1,6 @@
 // The reader of clause files: a text of bytes is filed, clause by clause, into a new case.
+#![tactic(auto)]
+
 mod fault;
 mod reader;
 

@@ -12,8 +12,7 @@ use crate::fault::{Cause, Fault};
 use body::Reader;
 use cases::OpenCase;
 use lexer::{Header, Span, header_line};
-use literals::LiteralSet;
-use statements::Clause;
+use statements::{Clause, LiteralSet};
 
 // How many bytes a text has at the most.
 pub const MOST_BYTES: usize = 16384;

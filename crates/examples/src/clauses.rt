@@ -1,6 +1,5 @@
-use literals::LiteralSet;
 use points::{Assignment, Point, PointSet};
-use statements::{Clause, Statement};
+use statements::{Clause, LiteralSet, Statement};
 use std::test::Fail;
 
 // The number of the refusal of these numbers, or 0.

@@ -1,4 +1,6 @@
 // Tests of the layers on examples, a module for each layer.
+#![tactic(auto)]
+
 #[cfg(test)]
 mod clauses;
 #[cfg(test)]

@@ -1,7 +1,6 @@
 use cases::OpenCase;
 use dimacs::{Fault, read};
-use literals::LiteralSet;
-use statements::{Clause, Statement};
+use statements::{Clause, LiteralSet, Statement};
 use std::alloc::{AllocError, Global};
 use std::test::Fail;
 

@@ -66,7 +66,9 @@ impl Header {
         if !ends_line(clauses, line) {
             return None;
         }
-        if &line[letter.start..letter.end] != b"p" || &line[format.start..format.end] != b"cnf" {
+        if &line[letter.start..letter.end] != b"p".as_slice()
+            || &line[format.start..format.end] != b"cnf".as_slice()
+        {
             return None;
         }
         Some(Header {

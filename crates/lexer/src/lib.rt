@@ -1,4 +1,6 @@
 // The lexical layer of a reader of clause files: lines, words, numbers and the header line of a text of bytes.
+#![tactic(auto)]
+
 mod headers;
 mod numbers;
 mod pieces;

@@ -1,4 +1,6 @@
 // Literals, and sets of literals that name no point both ways. Every kind of statement that rests on literals holds such a set.
+#![tactic(auto)]
+
 mod fault;
 mod literal;
 mod set;

@@ -1,4 +1,6 @@
 // Points of a case, sets of points in one machine word, and assignments.
+#![tactic(auto)]
+
 mod assignment;
 mod point;
 mod set;

@@ -1,8 +1,9 @@
 // Files a clause file from standard input into a new case, and prints what was filed, or which question the file failed and at
 // which byte.
+#![tactic(auto)]
+
 use dimacs::{MOST_BYTES, read};
-use literals::LiteralSet;
-use statements::Clause;
+use statements::{Clause, LiteralSet};
 use std::io;
 use std::io::Read;
 

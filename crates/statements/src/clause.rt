@@ -1,7 +1,7 @@
 mod kind;
 mod make;
 
-use literals::LiteralSet;
+use crate::literals::LiteralSet;
 
 // A set of literals that names no point both ways: at least one of them is true.
 #[derive(Clone, Copy)]

@@ -4,7 +4,7 @@ ghost use Rattle.dimacs.specs.declared.fault.Cause.TheVariants.{Open, Make, File
 
 use super::Cause;
 use cases::{FileFault, OpenFault};
-use literals::MakeFault;
+use statements::MakeFault;
 
 impl From<OpenFault> for Cause {
     ghost from_gives = { λ e c. c ≡ Open e };

@@ -4,14 +4,12 @@ ghost use Rattle.dimacs.specs.Reading.{body, at_end, end_token, token};
 ghost use Rattle.dimacs.specs.Steps.{Ready, Steps, Adds, Walks, Finishes};
 ghost use Rattle.std.specs.Prelude.{◌≤◌, length, drop};
 ghost use Rattle.points.specs.Sets.{greatest};
-ghost use Rattle.literals.specs.Literals.{named};
-ghost use Rattle.statements.specs.Clauses.{clause_of};
+ghost use Rattle.statements.specs.Clauses.{clause_of, named};
 
 use crate::fault::{Cause, Fault};
 use cases::OpenCase;
 use lexer::{Cut, Span, next_word, number};
-use literals::{Literal, LiteralSet};
-use statements::Clause;
+use statements::{Clause, Literal, LiteralSet};
 
 // A case that is being read: how many clauses are announced, and the literals of the clause that is not finished.
 #[derive(Drop)]
@@ -65,7 +63,7 @@ impl Reader {
 
     // Adds a literal to the clause that is not finished.
     fn add(&mut self, value: i32) -> Result<(), Cause>
-        requires { greatest (named self.old.literals) ≤ self.old.case.points }
+        requires { greatest (named (clause_of self.old.literals)) ≤ self.old.case.points }
         ensures { Adds value self.old self.new result }
     {
         let literal = Literal::new(value)?;

@@ -1,9 +1,8 @@
 // What a set answers.
-ghost use Rattle.std.specs.Prelude.{◌≡◌, ℕ, ◌≤◌, true, false, Decides, nat_eq};
+ghost use Rattle.std.specs.Prelude.{◌≡◌, ℕ, ◌≤◌, ◌==◌, true, false, Decides};
 ghost use Rattle.points.specs.Sets.{member, counted, last_of, is_empty, subset, size, greatest};
-ghost use Rattle.std.specs.Ordering.{on};
-ghost use Rattle.std.specs.Cmp.Rules.{comparing};
-ghost use Rattle.std.proofs.Common.{rules, arith};
+ghost use Rattle.std.specs.Cmp.{on_per, partial_equiv_from_equiv, nat_eq_equiv};
+ghost use Rattle.points.specs.declared.set.PointSet as declared;
 
 use super::PointSet;
 use crate::point::Point;
@@ -53,11 +52,15 @@ impl PointSet {
 
 // Two sets are equal where they have the same members.
 impl PartialEq for PointSet {
-    ghost eq = { on (λ v. v.bits) nat_eq };
+    ghost eq = { λ a b. a.bits == b.bits };
 
-    ghost laws = { first_of (Prim.search (comparing, rules), Prim.grind (arith, Self.row.coded.inj)) };
+    ghost laws = { on_per (λ (s : declared.PointSet). s.bits) (partial_equiv_from_equiv nat_eq_equiv) };
 
-    fn eq(&self, other: &PointSet) -> bool {
+    fn eq(&self, other: &PointSet) -> bool
+        ensures bits { result ≡ (self.now.bits == other.now.bits) }
+        ensures same { Decides result (self.now ≡ other.now) }
+        ensures members { Decides result ((p : ℕ) → member self.now p ≡ member other.now p) }
+    {
         self.bits == other.bits
     }
 }

@@ -1,9 +1,19 @@
-ghost use Rattle.statements.specs.Clauses.{clause_kind, Fits};
+ghost use Rattle.std.specs.Prelude.{◌≡◌};
+ghost use Rattle.statements.specs.Clauses.{clause_kind, named, Fits};
 ghost use Rattle.statements.specs.ClauseLaws.{clause_sound, clause_exact};
 
 use super::Clause;
 use crate::statement::Statement;
-use points::{Assignment, Point};
+use points::{Assignment, Point, PointSet};
+
+impl Clause {
+    // The points that the clause names, either way.
+    fn named(&self) -> PointSet
+        ensures { result ≡ named self.now }
+    {
+        self.literals.yes.union(self.literals.no)
+    }
+}
 
 impl Statement for Clause {
     const KIND: u32 = 1;
@@ -21,23 +31,30 @@ impl Statement for Clause {
     }
 
     fn length(&self) -> u32 {
-        self.literals.named().size()
+        self.named().size()
     }
 
     fn last(&self) -> u32 {
-        self.literals.named().greatest()
+        self.named().greatest()
     }
 
     fn holds(&self, assignment: &Assignment) -> bool {
-        !self.literals.true_points(assignment).is_empty()
+        let yes = assignment.yes_points();
+        let satisfied = self
+            .literals
+            .yes
+            .intersection(yes)
+            .union(self.literals.no.difference(yes));
+        !satisfied.is_empty()
     }
 
     fn impossible(&self) -> bool {
-        self.literals.named().is_empty()
+        self.named().is_empty()
     }
 
     fn covers(&self, other: &Clause) -> bool {
-        self.literals.is_subset(other.literals)
+        self.literals.yes.is_subset(other.literals.yes)
+            && self.literals.no.is_subset(other.literals.no)
     }
 
     fn combine(&self, other: &Clause, point: Point) -> Option<Clause> {

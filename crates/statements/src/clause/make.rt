@@ -1,10 +1,11 @@
 ghost use Rattle.std.specs.Prelude.{◌≡◌, ℤ, MatchResult};
-ghost use Rattle.literals.specs.Literals.{names, listed};
-ghost use Rattle.literals.specs.Making.{made, make_refusal};
+ghost use Rattle.statements.specs.Literals.{names, listed};
 ghost use Rattle.statements.specs.Clauses.{as_clause};
+ghost use Rattle.statements.specs.Making.{made, make_refusal};
 
 use super::Clause;
-use literals::{LiteralSet, MakeFault};
+use crate::fault::MakeFault;
+use crate::literals::LiteralSet;
 
 impl Clause {
     // The clause of these literals.

@@ -5,5 +5,5 @@ use Rattle.points.proofs.set.PointSet.contains.Goals as goal
 
 pub returns : goal.returns
 returns c =
-    ap not (c.is-empty.ensures.value ∙ ap is_empty (c.intersection.ensures.value ∙ ap (common c.args.self) c.of.ensures.value))
+    ap not (c.is_empty.ensures.value ∙ ap is_empty (c.intersection.ensures.value ∙ ap (common c.args.self) c.of.ensures.value))
     ∙ contains_single c.args.self c.args.point.number c.args.point.positive c.args.point.small

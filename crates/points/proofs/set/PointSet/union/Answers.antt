@@ -4,8 +4,8 @@ use Rattle.points.specs.Sets.{member, joined}
 use Rattle.points.proofs.Members.{same_word, member-joined}
 use Rattle.points.proofs.set.PointSet.union.Goals as goal
 
-pub invariant-of-result : goal.invariant-of-result
-invariant-of-result c =
+pub invariant_of-result : goal.invariant_of-result
+invariant_of-result c =
     let fits = or_lt 64 c.args.self.bits c.args.other.bits c.args.self.within c.args.other.within in
     search rules
 

@@ -1,9 +1,9 @@
 use Rattle.std.proofs.Common.{◌≡◌, ◌≤◌, true, ◌||◌, ℤ, nat_abs, Err, sym, refl, ap, ◌∙◌, subst, le_refl, arith, w32, to_z, of_z}
 use mir.ValLaws.{to_z-of_z}
 use Rattle.std.proofs.lemmas.Result.{err_from_is_err_and}
-use Rattle.literals.specs.Literals.{names, same_number, signed}
-use Rattle.literals.specs.Making.{is_literal, extended}
-use Rattle.literals.proofs.MakeLaws.{refused_alone, literal_number}
+use Rattle.statements.specs.Literals.{names, same_number, signed}
+use Rattle.statements.specs.Making.{is_literal, extended}
+use Rattle.statements.proofs.MakeLaws.{refused_alone, literal_number}
 use Rattle.dimacs.specs.Steps.{Adds}
 use Rattle.dimacs.specs.declared.fault.Cause.TheVariants.{Make}
 use Rattle.dimacs.proofs.StepLaws.{added, added_last, added_large}

@@ -5,10 +5,17 @@ use Rattle.points.specs.declared.set.PointSet.{PointSet}
 use Rattle.points.proofs.Members.{same_word, same_members}
 use Rattle.points.proofs.set.measure.PointSetPartialEq.eq.Goals as goal
 
-pub returns : goal.returns
-returns c =
-    let a = c.args.self.now in
-    let b = c.args.other.now in
-    let same : eqb a.bits b.bits ≡ true → a ≡ b = λ e. same_word a b (eqb-true _ _ e) in
-    let test : a ≡ b → eqb a.bits b.bits ≡ true = λ e. eq-eqb _ _ (ap (λ (s : PointSet). s.bits) e) in
-    ((same, test), (λ e p. ap (λ (s : PointSet). member s p) (same e), λ h. test (same_members a b h)))
+same : (a b : PointSet) → eqb a.bits b.bits ≡ true → a ≡ b
+same a b e = same_word a b (eqb-true a.bits b.bits e)
+
+test : (a b : PointSet) → a ≡ b → eqb a.bits b.bits ≡ true
+test a b e = eq-eqb a.bits b.bits (ap (λ (s : PointSet). s.bits) e)
+
+pub returns-clause-same : goal.returns-clause-same
+returns-clause-same c = (same c.args.self.now c.args.other.now, test c.args.self.now c.args.other.now)
+
+pub returns-clause-members : goal.returns-clause-members
+returns-clause-members c = (
+  λ e p. ap (λ (s : PointSet). member s p) (same c.args.self.now c.args.other.now e),
+  λ h. test c.args.self.now c.args.other.now (same_members c.args.self.now c.args.other.now h),
+)

@@ -10,11 +10,11 @@ returns-in-err-literals c =
     c.from-residual.ensures
     ∙ sym (ap (option_map clause_of) c.in-err-literals.was)
     ∙ combine-opposed c.args.self.now c.args.other.now p
-    (sym (c.contains.ensures ∙ c.opposed-points.ensures p) ∙ c.if-not-contains.false) c.resolvent.result c.resolvent.ensures.value
+    (sym (c.contains.ensures ∙ c.opposed-points.ensures p) ∙ c.if-not-contains.false) c.resolvent.result c.resolvent.ensures
 
 pub returns : goal.returns
 returns c =
     let p = c.args.point.number in
     sym (ap (option_map clause_of) c.in-ok-literals.was)
     ∙ combine-opposed c.args.self.now c.args.other.now p
-    (sym (c.contains.ensures ∙ c.opposed-points.ensures p) ∙ c.if-not-contains.false) c.resolvent.result c.resolvent.ensures.value
+    (sym (c.contains.ensures ∙ c.opposed-points.ensures p) ∙ c.if-not-contains.false) c.resolvent.result c.resolvent.ensures

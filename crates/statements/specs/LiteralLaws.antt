@@ -1,0 +1,70 @@
+-- Sets of literals by their literals. Assumes nothing.
+use Rattle.std.specs.Prelude.{◌≡◌, ℕ, Bool, true, false, Some, None, Option, ◌≢◌, refl}
+use Rattle.std.proofs.Common.{sym, ap, ◌∙◌}
+use Rattle.std.proofs.Math.Bool.{Bool-set}
+use mathlib.Core.HLevel.{is_prop→PathP}
+use Rattle.std.proofs.lemmas.Bool.{both_ways, and_from, true≢false}
+use Rattle.points.specs.Sets.{member, common, is_empty}
+use Rattle.points.specs.declared.set.PointSet.{PointSet}
+use Rattle.points.proofs.Members.{member-common, empty_decides}
+use Rattle.statements.specs.Literals.{clear, clear_by}
+use Rattle.statements.specs.declared.literals.LiteralSet.{LiteralSet}
+
+-- a set of literals is told by its two sets of points
+pub same_literals : (s t : LiteralSet) → s.yes ≡ t.yes → s.no ≡ t.no → s ≡ t
+same_literals s t e f = λ i.
+    record {
+      yes = e i;
+      no = f i;
+      apart = is_prop→PathP (λ j. is_empty (common (e j) (f j)) ≡ true) (λ j. Bool-set (is_empty (common (e j) (f j))) true) s.apart t.apart i;
+    }
+
+-- no point is named both ways
+pub never_both : (s : LiteralSet) (p : ℕ) → member s.yes p ≡ true → member s.no p ≢ true
+never_both s p y n =
+    both_ways (member (common s.yes s.no) p) ((empty_decides (common s.yes s.no)).0 s.apart p)
+    (member-common s.yes s.no p ∙ and_from (member s.yes p) (member s.no p) y n)
+
+-- ---- what `clear` gives
+
+clear_by_lem : (y n : PointSet) (b : Bool) (e : is_empty (common y n) ≡ b) (s : LiteralSet) → clear_by y n b e ≡ Some s → (s.yes ≡ y) × (s.no ≡ n)
+unfolding clear_by
+clear_by_lem y n true e s h = (sym (ap left h), sym (ap right h))
+  where
+    left : Option LiteralSet → PointSet
+    left None = y
+    left (Some t) = t.yes
+
+    right : Option LiteralSet → PointSet
+    right None = n
+    right (Some t) = t.no
+clear_by_lem y n false e s h = absurd (true≢false (ap some h))
+  where
+    some : Option LiteralSet → Bool
+    some None = true
+    some (Some t) = false
+
+-- a set that it gives has just these points
+pub clear-parts : (y n : PointSet) (s : LiteralSet) → clear y n ≡ Some s → (s.yes ≡ y) × (s.no ≡ n)
+unfolding clear
+clear-parts y n s h = clear_by_lem y n (is_empty (common y n)) refl s h
+
+some_by : (s : LiteralSet) (b : Bool) (e : is_empty (common s.yes s.no) ≡ b) → clear_by s.yes s.no b e ≡ Some s
+unfolding clear_by
+some_by s true e = ap Some (same_literals (record { yes = s.yes; no = s.no; apart = e }) s refl refl)
+some_by s false e = absurd (true≢false (sym s.apart ∙ e))
+
+-- it gives a set at the points of a set
+pub clear-some : (s : LiteralSet) → clear s.yes s.no ≡ Some s
+unfolding clear
+clear-some s = some_by s (is_empty (common s.yes s.no)) refl
+
+none_by : (y n : PointSet) (b : Bool) (e : is_empty (common y n) ≡ b) → is_empty (common y n) ≡ false → clear_by y n b e ≡ None
+unfolding clear_by
+none_by y n true e h = absurd (both_ways (is_empty (common y n)) h e)
+none_by y n false e h = refl
+
+-- and nothing where a point is on both sides
+pub clear_none : (y n : PointSet) → is_empty (common y n) ≡ false → clear y n ≡ None
+unfolding clear
+clear_none y n h = none_by y n (is_empty (common y n)) refl h

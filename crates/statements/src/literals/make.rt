@@ -1,0 +1,107 @@
+// Sets of literals from points and from signed numbers.
+ghost use Rattle.std.specs.Prelude.{◌≡◌, ℕ, true, ◌||◌, [], ◌∷◌, ℤ, neg_ℤ, if◌then◌else◌, Ok, Err, MatchResult};
+ghost use Rattle.points.specs.Sets.{member};
+ghost use Rattle.statements.specs.Literals.{names, signed, same_number, listed, clear, bare, opposed, resolvent};
+ghost use Rattle.statements.specs.Making.{are_literals, all_asserted, all_denied, extended, made, make_refusal};
+ghost use Rattle.statements.specs.declared.fault.MakeFault.TheVariants.{Magnitude, Opposed};
+
+use super::{Literal, LiteralSet};
+use crate::fault::MakeFault;
+use points::{Point, PointSet};
+
+impl Literal {
+    // The literal that a signed number stands for; refused where the magnitude is not from 1 to 64.
+    pub fn new(number: i32) -> Result<Literal, MakeFault>
+        ensures { MatchResult result (λ l. signed l ≡ number) (λ e. (make_refusal e).1 (number ∷ [])) }
+    {
+        match Point::new(number.unsigned_abs()) {
+            None => Err(MakeFault::Magnitude),
+            Some(point) => {
+                if number < 0 {
+                    Ok(Literal::Negative(point))
+                } else {
+                    Ok(Literal::Positive(point))
+                }
+            }
+        }
+    }
+}
+
+impl LiteralSet {
+    // The set of no literals.
+    pub fn empty() -> LiteralSet
+        ensures { result ≡ bare }
+    {
+        let none = PointSet::empty();
+        LiteralSet {
+            yes: none,
+            no: none,
+        }
+    }
+
+    // The set of these literals, or nothing where a point is named both ways.
+    pub(crate) fn of(yes: PointSet, no: PointSet) -> Option<LiteralSet>
+        ensures { result ≡ clear yes no }
+    {
+        if yes.intersection(no).is_empty() {
+            Some(LiteralSet { yes, no })
+        } else {
+            None
+        }
+    }
+
+    // The points that the two sets name oppositely.
+    pub(crate) fn opposed_points(self, other: LiteralSet) -> PointSet
+        ensures { (p : ℕ) → member result p ≡ opposed self other p }
+    {
+        self.yes
+            .intersection(other.no)
+            .union(self.no.intersection(other.yes))
+    }
+
+    // All literals of the two sets but those on the point, or nothing where a point would be named both ways.
+    pub(crate) fn resolvent(self, other: LiteralSet, point: Point) -> Option<LiteralSet>
+        ensures { result ≡ resolvent self other point.number }
+    {
+        let yes = self.yes.union(other.yes).without(point);
+        let no = self.no.union(other.no).without(point);
+        LiteralSet::of(yes, no)
+    }
+
+    // This set with one more literal; refused where its denial is in the set.
+    pub fn with(self, literal: Literal) -> Result<LiteralSet, MakeFault>
+        ensures value { result ≡ extended self (signed literal) }
+        ensures literals { MatchResult result (λ s. (z : ℤ) → names s z ≡ (names self z || same_number z (signed literal))) (λ e. (e ≡ Opposed) × (names self (neg_ℤ (signed literal)) ≡ true)) }
+    {
+        let extended = match literal {
+            Literal::Positive(point) => LiteralSet::of(self.yes.with(point), self.no),
+            Literal::Negative(point) => LiteralSet::of(self.yes, self.no.with(point)),
+        };
+        extended.ok_or(MakeFault::Opposed)
+    }
+
+    // The set of the literals that the numbers stand for. Refused where the magnitude of one of them is not from 1 to 64, and
+    // else where a point is named both ways.
+    pub fn make(numbers: &[i32]) -> Result<LiteralSet, MakeFault>
+        ensures value { result ≡ made numbers.now }
+        ensures literals { MatchResult result (λ s. (z : ℤ) → names s z ≡ listed numbers.now z) (λ e. (make_refusal e).1 numbers.now) }
+    {
+        let (yes, no) = sorted(numbers)?;
+        LiteralSet::of(yes, no).ok_or(MakeFault::Opposed)
+    }
+}
+
+// The points that the numbers name as they are, and the points that they deny.
+fn sorted(numbers: &[i32]) -> Result<(PointSet, PointSet), MakeFault>
+    ensures { result ≡ (if are_literals numbers.now then Ok (all_asserted numbers.now, all_denied numbers.now) else Err Magnitude) }
+{
+    let mut yes = PointSet::empty();
+    let mut no = PointSet::empty();
+    for number in numbers {
+        match Literal::new(*number)? {
+            Literal::Positive(point) => yes = yes.with(point),
+            Literal::Negative(point) => no = no.with(point),
+        }
+    }
+    Ok((yes, no))
+}

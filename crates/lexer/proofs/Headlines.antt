@@ -1,10 +1,7 @@
 -- What the words of a header line say. Assumes nothing.
-use Rattle.std.proofs.Common.{◌≡◌, ℕ, zero, suc, ◌+◌, ◌-◌, ◌<◌, ◌≤◌, Bool, true, false, cond, not, ◌&&◌, List, [], ◌∷◌, length, drop, IfSome, Some, None, codes, Decides, Option, sym, refl, ap, ◌∙◌, subst, arith, length-drop}
+use Rattle.std.proofs.Common.{◌≡◌, ℕ, zero, suc, ◌+◌, ◌<◌, ◌≤◌, Bool, true, false, cond, not, ◌&&◌, List, [], ◌∷◌, length, drop, IfSome, Some, None, codes, Option, sym, refl, ap, ◌∙◌, subst, arith, length-drop}
 use Rattle.std.proofs.lemmas.List.{drop_all}
-use Rattle.std.proofs.lemmas.Slice.Eq.{slice_eq-Decides, bytes_eq-Decides}
-use Rattle.std.proofs.lemmas.Bool.Decides.{same_from_decides, Decides-eqb}
 use Rattle.std.proofs.lemmas.Bool.{and_from, cond-true, cond-false}
-use Rattle.std.specs.Cmp.Lexicographic.{Matches}
 use Rattle.std.specs.List.{AllByRecursion}
 use Rattle.std.specs.Str.{bytes_eq}
 use Rattle.lexer.specs.Text.{Piece, is_blank, run, words}
@@ -33,10 +30,9 @@ uncounted : (at : ℕ) (m : Option ℕ) → counts at m None ≡ None
 uncounted at None = refl
 uncounted at (Some m) = refl
 
--- what `!=` on slices of bytes says
-pub same_from_ne : (xs ys : List ℕ) (r : Bool) → ((b : Bool) × Matches (λ (x y : ℕ) (t : Bool). Decides t (x ≡ y)) xs ys b × (r ≡ not b)) → bytes_eq xs ys ≡ not r
-same_from_ne xs ys r told =
-    sym (same_from_decides told.0 (bytes_eq xs ys) (slice_eq-Decides Decides-eqb xs ys told.0 told.1) (bytes_eq-Decides xs ys)) ∙ sym (twice told.0) ∙ ap not (sym told.2)
+-- what `!=` on slices of bytes says, the second of which is ys
+pub same_from_ne : (xs ys slice : List ℕ) (r : Bool) → slice ≡ ys → r ≡ not (bytes_eq xs slice) → bytes_eq xs ys ≡ not r
+same_from_ne xs ys slice r is told = ap (bytes_eq xs) (sym is) ∙ sym (twice (bytes_eq xs slice)) ∙ ap not (sym told)
 
 refused : (line : List ℕ) → fields (words is_blank 0 line) ≡ None → None ≡ fields_of line
 unfolding fields_of

@@ -1,5 +1,5 @@
 -- The tokens of a text: its lines cut at spaces are the text cut at each separator. Assumes nothing.
-use Rattle.std.proofs.Common.{◌≡◌, ℕ, ◌+◌, true, false, cond, not, ◌||◌, List, [], ◌∷◌, ◌++◌, length, take, drop, sym, refl, ap, ◌∙◌, add-zero, arith}
+use Rattle.std.proofs.Common.{◌≡◌, ℕ, ◌+◌, true, false, cond, ◌||◌, List, [], ◌∷◌, ◌++◌, length, take, drop, sym, refl, ap, ◌∙◌, add-zero, arith}
 use Rattle.lexer.specs.Text.{Piece, is_line_end, is_space, is_separator, run, first_byte, pieces, placed, keep, solid, words, lines_from, tokens, tokens_from}
 use Rattle.lexer.specs.Cuts.{cuts_at, part, FirstWord}
 use Rattle.lexer.specs.declared.pieces.Cut.TheVariants.{Space}

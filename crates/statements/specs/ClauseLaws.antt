@@ -1,5 +1,5 @@
 -- The laws of clauses. Assumes nothing.
-use Rattle.std.specs.Prelude.{◌≡◌, ℕ, zero, suc, ◌<◌, ◌≤◌, max, Bool, true, false, cond, not, ◌&&◌, ◌||◌, ◌⊎◌, ℤ, pos, negsuc, Some, None, Option, ◌==◌, ◌≢◌, refl}
+use Rattle.std.specs.Prelude.{◌≡◌, ℕ, zero, suc, ◌≤◌, max, Bool, true, false, cond, not, ◌&&◌, ◌||◌, ◌⊎◌, ℤ, pos, negsuc, Some, None, Option, ◌==◌, ◌≢◌, refl}
 use Rattle.std.proofs.Common.{sym, ap, ap₂, subst, ◌∙◌, inl, inr, arith, lit<}
 use Rattle.std.proofs.lemmas.Bool.{both_ways, and_from, and_parts, or_cases, or_left, or_right, not-true, not_from_false, true≢false, cases_Bool, cases_eq, eq-eqb, ne_eqb, eqb-true, cond-true}
 use Rattle.std.proofs.lemmas.Bool.Decides.{same_from_decides}
@@ -7,7 +7,8 @@ use Rattle.std.specs.Option.{option_map}
 use Rattle.points.specs.Sets.{member, single, joined, without, is_empty, subset, greatest, some_of}
 use Rattle.points.specs.declared.set.PointSet.{PointSet}
 use Rattle.points.proofs.Members.{member-joined, member-without, member-single, member_positive, member_small, empty_decides, subset_decides, some_not_empty}
-use Rattle.points.proofs.Sizes.{member-last, greatest_below, some-member, some_decides}
+use Rattle.points.proofs.Sizes.{member-last, greatest_below, some-member}
+use Rattle.points.proofs.Counts.{some_decides}
 use Rattle.statements.specs.Kind.{Sound, Exact}
 use Rattle.statements.specs.Literals.{names, true_in, opposed, resolvent}
 use Rattle.statements.specs.Clauses.{clause_core, clause_kind, clause_of, Fits, named, true_at}

@@ -23,21 +23,21 @@ refusal text table e at is =
     let rows : table ≡ over (reading (length table) text).clauses table = sym (ap (λ (x : Reading). over x.clauses table) is) in
     record { answer = answer; judged = judged (length table) text table table (Err (record { cause = e; place = at })) answer rows; rows = rows }
 
-pub returns-then-is-too-long : goal.returns-then-is-too-long
-returns-then-is-too-long c =
-    let e = reading_long (length c.args.table.now) c.args.text.now (ltb-true 16384 (length c.args.text.now) (sym c.is-too-long.ensures ∙ c.if-is-too-long.true)) in
+pub returns-then-is_too_long : goal.returns-then-is_too_long
+returns-then-is_too_long c =
+    let e = reading_long (length c.args.table.now) c.args.text.now (ltb-true 16384 (length c.args.text.now) (sym c.is_too_long.ensures ∙ c.if-is_too_long.true)) in
     record { reads = refusal c.args.text.now c.args.table.now Long 16384 e; back = reads_back; example = example }
 
-pub returns-in-default : goal.returns-in-default
-returns-in-default c =
-    let e = reading_comments (length c.args.table.now) c.args.text.now (ltb-false 16384 (length c.args.text.now) (sym c.is-too-long.ensures ∙ c.if-is-too-long.false)) c.in-default.ensures in
+pub returns-in_default : goal.returns-in_default
+returns-in_default c =
+    let e = reading_comments (length c.args.table.now) c.args.text.now (ltb-false 16384 (length c.args.text.now) (sym c.is_too_long.ensures ∙ c.if-is_too_long.false)) c.in_default.ensures in
     record { reads = refusal c.args.text.now c.args.table.now BadHeader (length c.args.text.now) e; back = reads_back; example = example }
 
-pub returns-in-default-parse : goal.returns-in-default-parse
-returns-in-default-parse c =
+pub returns-in_default-parse : goal.returns-in_default-parse
+returns-in_default-parse c =
     let e =
-    reading_bad (length c.args.table.now) c.args.text.now (ltb-false 16384 (length c.args.text.now) (sym c.is-too-long.ensures ∙ c.if-is-too-long.false)) c.in-Some.field-0.start c.in-Some.field-0.end c.in-Some.ensures
-    (sym c.in-default-parse.ensures.value) in
+    reading_bad (length c.args.table.now) c.args.text.now (ltb-false 16384 (length c.args.text.now) (sym c.is_too_long.ensures ∙ c.if-is_too_long.false)) c.in-Some.field-0.start c.in-Some.field-0.end c.in-Some.ensures
+    (sym c.in_default-parse.ensures.value) in
     record { reads = refusal c.args.text.now c.args.table.now BadHeader c.in-Some.field-0.start e; back = reads_back; example = example }
 
 pub returns-in-Ok : goal.returns-in-Ok
@@ -52,12 +52,12 @@ returns-in-Ok c =
     let e : body case.points d.clauses (length table) (length text) (tokens_from end (drop end text)) begun ≡ reading (length table) text =
     ap (λ (n : ℕ). body n d.clauses (length table) (length text) (tokens_from end (drop end text)) begun) points
     ∙ sym
-    (reading-body (length table) text (ltb-false 16384 (length c.args.text.now) (sym c.is-too-long.ensures ∙ c.if-is-too-long.false)) start end c.in-Some.ensures d (sym c.in-Some-parse.ensures.value)
+    (reading-body (length table) text (ltb-false 16384 (length c.args.text.now) (sym c.is_too_long.ensures ∙ c.if-is_too_long.false)) start end c.in-Some.ensures d (sym c.in-Some-parse.ensures.value)
     (omega (arith, points, case.some)) (omega (arith, points, case.few))) in
-    let answer = subst (λ (x : Reading). Answers x c.read-body.result) e c.read-body.ensures.answer in
-    let rows = c.read-body.ensures.rows ∙ ap (λ (x : Reading). over x.clauses table) e in
-    let reads : Reads text table c.read-body.new.table c.read-body.result =
-    record { answer = answer; judged = judged (length table) text table c.read-body.new.table c.read-body.result answer rows; rows = rows } in
+    let answer = subst (λ (x : Reading). Answers x c.read_body.result) e c.read_body.ensures.answer in
+    let rows = c.read_body.ensures.rows ∙ ap (λ (x : Reading). over x.clauses table) e in
+    let reads : Reads text table c.read_body.new.table c.read_body.result =
+    record { answer = answer; judged = judged (length table) text table c.read_body.new.table c.read_body.result answer rows; rows = rows } in
     record { reads = reads; back = reads_back; example = example }
 
 -- an opening is refused for the number of points alone
@@ -70,7 +70,7 @@ returns-in-Err c =
     let start = c.in-Some.field-0.start in
     let why = refused-points c.in-Err.fault d.points c.in-Err.ensures in
     let e =
-    reading-points (length c.args.table.now) c.args.text.now (ltb-false 16384 (length c.args.text.now) (sym c.is-too-long.ensures ∙ c.if-is-too-long.false)) start c.in-Some.field-0.end c.in-Some.ensures d
+    reading-points (length c.args.table.now) c.args.text.now (ltb-false 16384 (length c.args.text.now) (sym c.is_too_long.ensures ∙ c.if-is_too_long.false)) start c.in-Some.field-0.end c.in-Some.ensures d
     (sym c.in-Some-parse.ensures.value) why.1 in
     let reads =
     refusal c.args.text.now c.args.table.now c.into.result (start + d.points_at)

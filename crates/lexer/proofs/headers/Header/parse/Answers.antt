@@ -8,12 +8,12 @@ use Rattle.lexer.proofs.headers.Header.parse.Goals as goal
 pub returns-in-Problem : goal.returns-in-Problem
 unfolding header_of
 returns-in-Problem c =
-    let said = c.from-words.ensures ∙ sym (cond-true _ _ _ (problem_begins c.args.line.now (sym c.in-Problem.ensures))) in
-    record { value = said; bounds = found_bounds c.args.line.now c.from-words.result said }
+    let said = c.from_words.ensures ∙ sym (cond-true _ _ _ (problem_begins c.args.line.now (sym c.in-Problem.ensures))) in
+    record { value = said; bounds = found_bounds c.args.line.now c.from_words.result said }
 
-pub returns-in-default : goal.returns-in-default
+pub returns-in_default : goal.returns-in_default
 unfolding header_of
-returns-in-default c = record {
-  value = sym (cond-false _ _ _ (no_problem_begins c.args.line.now (λ e. c.in-default.not-Problem (c.line-kind.ensures ∙ e))));
+returns-in_default c = record {
+  value = sym (cond-false _ _ _ (no_problem_begins c.args.line.now (λ e. c.in_default.not-Problem (c.line_kind.ensures ∙ e))));
   bounds = tt;
 }

@@ -10,8 +10,8 @@ use Rattle.literals.proofs.set.LiteralSet.make.Goals as goal
 pub returns-in-err-yes : goal.returns-in-err-yes
 returns-in-err-yes c =
     let zs = c.args.numbers.now in
-    let r = err_from_is_err_and c.from-residual.result c.from-residual.ensures.1 in
-    let value : c.from-residual.result ≡ made zs = r.1 ∙ ap Err r.2 ∙ made-refused zs c.in-err-yes.field-0.0 c.sorted.result c.in-err-yes.was c.sorted.ensures in
+    let r = err_from_is_err_and c.from_residual.result c.from_residual.ensures.1 in
+    let value : c.from_residual.result ≡ made zs = r.1 ∙ ap Err r.2 ∙ made-refused zs c.in-err-yes.field-0.0 c.sorted.result c.in-err-yes.was c.sorted.ensures in
     record { value = value; literals = subst (Made zs) (sym value) (made_law zs) }
 
 pub returns : goal.returns

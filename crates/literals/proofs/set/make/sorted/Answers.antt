@@ -28,7 +28,7 @@ returns-in-err-point c =
     let e = c.in-err-point.field-0.0 in
     let alone = refused_alone e (to_z w32 (of_z w32 z)) c.in-err-point.ensures in
     let out = not_literals zs i c.loop-number-test.true (sym (ap is_literal (passed z f)) ∙ alone.1) in
-    let r = err_from_is_err_and c.from-residual.result c.from-residual.ensures.1 in
+    let r = err_from_is_err_and c.from_residual.result c.from_residual.ensures.1 in
     r.1 ∙ ap Err (r.2 ∙ alone.0) ∙ sym (cond-false (are_literals zs) _ (Err Magnitude) out)
 
 pub loop-number-preserved : goal.loop-number-preserved

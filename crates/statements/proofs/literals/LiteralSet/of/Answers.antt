@@ -3,11 +3,11 @@ use Rattle.points.specs.Sets.{common, is_empty}
 use Rattle.statements.specs.LiteralLaws.{clear-some, clear_none}
 use Rattle.statements.proofs.literals.LiteralSet.of.Goals as goal
 
-pub returns-then-is-empty : goal.returns-then-is-empty
-returns-then-is-empty c = sym (clear-some (record { yes = c.args.yes; no = c.args.no; apart = _ }))
+pub returns-then-is_empty : goal.returns-then-is_empty
+returns-then-is_empty c = sym (clear-some (record { yes = c.args.yes; no = c.args.no; apart = _ }))
 
-pub returns-else-is-empty : goal.returns-else-is-empty
-returns-else-is-empty c =
+pub returns-else-is_empty : goal.returns-else-is_empty
+returns-else-is_empty c =
     let e : is_empty (common c.args.yes c.args.no) ≡ false =
-    sym (c.is-empty.ensures.value ∙ ap is_empty c.intersection.ensures.value) ∙ c.if-is-empty.false in
+    sym (c.is_empty.ensures.value ∙ ap is_empty c.intersection.ensures.value) ∙ c.if-is_empty.false in
     sym (clear_none c.args.yes c.args.no e)

@@ -10,10 +10,10 @@ use Rattle.statements.proofs.MakeLaws.{Extended, extended_law, extended_positive
 use Rattle.statements.proofs.literals.LiteralSet.with.Goals.{in-Positive, in-Negative}
 use Rattle.statements.proofs.literals.LiteralSet.with.Goals as goal
 
-value : (c : goal.After-ok-or) → c.ok-or.result ≡ extended c.args.self (signed c.args.literal)
+value : (c : goal.After-ok_or) → c.ok_or.result ≡ extended c.args.self (signed c.args.literal)
 value c =
     let s = c.args.self in
-    c.ok-or.ensures.value
+    c.ok_or.ensures.value
     ∙ elim c.match-literal.branch [
       | in-Positive w ↦
           ap (λ (o : Option LiteralSet). ok_or o Opposed) (w.extended-is ∙ w.of-extended.ensures ∙ ap (λ (y : PointSet). clear y s.no) w.with.ensures)

@@ -9,9 +9,9 @@ pub returns : goal.returns
 returns c =
     let r = c.args.self.now in
     let table = c.args.table.now in
-    let number = c.in-ok-file.field-0 in
+    let number = c.in_ok-file.field-0 in
     let filed =
     subst (λ (d : Clause). Accepted clause_core r.case table d c.file.new.self c.file.new.table number)
-    (ap clause_of c.of.ensures) c.in-ok-file.ensures in
+    (ap clause_of c.of.ensures) c.in_ok-file.ensures in
     ended r (record { case = c.file.new.self; announced = r.announced; literals = c.empty-self.result }) table c.file.new.table number c.requires filed
     refl c.empty-self.ensures

@@ -15,14 +15,14 @@ returns-then-filed-self c =
     refused_step (λ st. token r.case.points r.announced (length table) st c.args.bytes.now) (Unit {0}) r table Count
     (token-over r.case.points r.announced (length table) st c.args.bytes.now over)
 
-pub returns-in-default : goal.returns-in-default
-returns-in-default c =
+pub returns-in_default : goal.returns-in_default
+returns-in_default c =
     let r = c.args.self.now in
     let table = c.args.table.now in
     let st = progress r table in
     let under : length st.filed < r.announced = omega (arith, filed_count r table c.requires, c.filed.ensures, c.if-filed-self.false) in
     refused_step (λ st. token r.case.points r.announced (length table) st c.args.bytes.now) (Unit {0}) r table Token
-    (token_stray r.case.points r.announced (length table) st c.args.bytes.now under (sym c.number.ensures ∙ c.in-default.is))
+    (token_stray r.case.points r.announced (length table) st c.args.bytes.now under (sym c.number.ensures ∙ c.in_default.is))
 
 pub returns-then-value-eq0 : goal.returns-then-value-eq0
 returns-then-value-eq0 c =
@@ -34,9 +34,9 @@ returns-then-value-eq0 c =
     let fits : SFits w32 z = search rules in
     let zero : z ≡ pos 0 = sym (to_z-of_z w32 z fits) ∙ ap (to_z w32) c.if-value-eq0.true in
     let under : length st.filed < r.announced = omega (arith, filed_count r table c.requires, c.filed.ensures, c.if-filed-self.false) in
-    same_step (end_token (length table)) (λ st. token r.case.points r.announced (length table) st bs) r c.end-clause.new.self table c.end-clause.new.table
-    c.end-clause.result
-    (token_end r.case.points r.announced (length table) st bs under (sym c.number.ensures ∙ c.in-Some.is ∙ ap Some zero)) c.end-clause.ensures
+    same_step (end_token (length table)) (λ st. token r.case.points r.announced (length table) st bs) r c.end_clause.new.self table c.end_clause.new.table
+    c.end_clause.result
+    (token_end r.case.points r.announced (length table) st bs under (sym c.number.ensures ∙ c.in-Some.is ∙ ap Some zero)) c.end_clause.ensures
 
 pub returns-else-value-eq0 : goal.returns-else-value-eq0
 returns-else-value-eq0 c =

@@ -17,9 +17,9 @@ pub loop-start-preserved : goal.loop-start-preserved
 loop-start-preserved c =
     let l = c.loop-start in
     walked_more c.args.text.now c.args.from l.at c.args.self.now c.args.table.now l.self l.table l.invariant
-    (tt {0}) c.in-Some.field-0.start c.in-Some.field-0.end c.token.new.self c.token.new.table c.in-Some.ensures c.in-default-token.ensures
+    (tt {0}) c.in-Some.field-0.start c.in-Some.field-0.end c.token.new.self c.token.new.table c.in-Some.ensures c.in_default-token.ensures
 
 pub returns : goal.returns
 returns c =
     let l = c.loop-start in
-    walked_all c.args.text.now c.args.from l.at c.args.self.now c.args.table.now l.self l.table l.invariant (tt {0}) c.in-default.ensures
+    walked_all c.args.text.now c.args.from l.at c.args.self.now c.args.table.now l.self l.table l.invariant (tt {0}) c.in_default.ensures

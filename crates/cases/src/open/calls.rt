@@ -38,7 +38,7 @@ impl OpenCase {
     // Files the statement in the next row of the table, and answers its number. Refused where its last point is beyond those of
     // the case, and else where no usable row is left; a refusal changes nothing.
     pub fn file<S: Statement>(&mut self, table: &mut [S], statement: S) -> Result<usize, FileFault>
-        ensures { Files kind.core self.old table.old statement self.new table.new result }
+        ensures { Files S.kind.core self.old table.old statement self.new table.new result }
     {
         self.admit(statement.last())?;
         let number = self.filed;

@@ -12,12 +12,12 @@ use Rattle.lexer.specs.Text.{Piece, lines_from, tokens}
 use Rattle.points.specs.Sets.{greatest}
 use Rattle.points.proofs.Sizes.{member-last}
 use Rattle.statements.specs.Clauses.{clause_of, named}
-use Rattle.statements.specs.Literals.{bare, names, same_number, listed}
+use Rattle.statements.specs.Literals.{bare, names, same_number, listed, point_of}
 use Rattle.statements.specs.Making.{is_literal, are_literals, made, extended}
 use Rattle.statements.specs.declared.clause.Clause.{Clause}
 use Rattle.statements.specs.declared.fault.MakeFault.{MakeFault}
 use Rattle.statements.specs.declared.literals.LiteralSet.{LiteralSet}
-use Rattle.statements.specs.ClauseLaws.{names-point, point_of}
+use Rattle.statements.specs.ClauseLaws.{names-point}
 use Rattle.statements.specs.LiteralLaws.{never_both}
 use Rattle.statements.proofs.MakeLaws.{Made, Extended, made_law, extended_law, made_none, made_push, made_of_numbers, literals_append}
 use Rattle.dimacs.specs.Denoting.{and_then, numbers_of, Spells, nothing, clause, OnPoints, Case, Judged}

@@ -13,7 +13,7 @@ use Rattle.statements.specs.Making.{made}
 use Rattle.statements.specs.declared.clause.Clause.{Clause}
 use Rattle.statements.proofs.MakeLaws.{Extended, extended_law, made_none, made_push}
 use Rattle.dimacs.specs.Denoting.{and_then, numbers_of, Spells, nothing, clause, OnPoints, Case}
-use Rattle.dimacs.specs.Reading.{Progress, Reading, accepted, refused, begun, at_end, go_on, token, body, from_header, from_line, reading}
+use Rattle.dimacs.specs.Reading.{Progress, Reading, accepted, refused, begun, at_end, go_on, body, from_header, from_line, reading}
 use Rattle.dimacs.specs.declared.fault.Cause.{Cause}
 use Rattle.dimacs.specs.declared.fault.Cause.TheVariants.{Long, Count, Open}
 use Rattle.dimacs.specs.declared.fault.Fault.{Fault}

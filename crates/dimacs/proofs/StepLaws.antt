@@ -10,12 +10,12 @@ use Rattle.lexer.specs.Numerals.{number_of}
 use Rattle.points.specs.Sets.{member, none, joined, greatest}
 use Rattle.points.proofs.Sizes.{greatest_below, member-last}
 use Rattle.statements.specs.Clauses.{clause_core, clause_of, named}
-use Rattle.statements.specs.Literals.{bare, names, same_number}
+use Rattle.statements.specs.Literals.{bare, names, same_number, point_of}
 use Rattle.statements.specs.Making.{is_literal, extended}
 use Rattle.statements.specs.declared.clause.Clause.{Clause}
 use Rattle.statements.specs.declared.fault.MakeFault.TheVariants.{Magnitude}
 use Rattle.statements.specs.declared.literals.LiteralSet.{LiteralSet}
-use Rattle.statements.specs.ClauseLaws.{named_literal, names-point, point_of}
+use Rattle.statements.specs.ClauseLaws.{named_literal, names-point}
 use Rattle.dimacs.specs.Reading.{Progress, end_token, literal_token, as_cause, with_pending, number_token, or_token, token}
 use Rattle.dimacs.specs.Steps.{progress, Ready, Steady, Steps, Adds}
 use Rattle.dimacs.specs.declared.fault.Cause.{Cause}

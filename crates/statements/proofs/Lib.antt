@@ -1,1 +1,2 @@
 pub mod MakeLaws
+pub mod PairLaws

@@ -10,16 +10,11 @@ use Rattle.points.proofs.Members.{member-joined, member-without, member-single, 
 use Rattle.points.proofs.Sizes.{member-last, greatest_below, some-member}
 use Rattle.points.proofs.Counts.{some_decides}
 use Rattle.statements.specs.Kind.{Sound, Exact}
-use Rattle.statements.specs.Literals.{names, true_in, opposed, resolvent}
+use Rattle.statements.specs.Literals.{names, point_of, true_in, opposed, resolvent}
 use Rattle.statements.specs.Clauses.{clause_core, clause_kind, clause_of, Fits, named, true_at}
 use Rattle.statements.specs.declared.clause.Clause.{Clause}
 use Rattle.statements.specs.declared.literals.LiteralSet.{LiteralSet}
 use Rattle.statements.specs.LiteralLaws.{never_both, clear-parts}
-
--- the point of a literal
-abbrev pub point_of : ℤ → ℕ
-point_of (pos p) = p
-point_of (negsuc k) = suc k
 
 -- the point of a literal of the clause is one that it names
 pub names-point : (c : Clause) (z : ℤ) → names c.literals z ≡ true → member (named c) (point_of z) ≡ true

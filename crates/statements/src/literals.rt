@@ -1,4 +1,6 @@
 mod make;
+mod named;
+mod pairs;
 
 ghost use Rattle.std.specs.Prelude.{◌≡◌, true};
 ghost use Rattle.points.specs.Sets.{common, is_empty};

@@ -1,7 +1,7 @@
 // Sets of literals from points and from signed numbers.
-ghost use Rattle.std.specs.Prelude.{◌≡◌, ℕ, true, ◌||◌, [], ◌∷◌, ℤ, neg_ℤ, if◌then◌else◌, Ok, Err, MatchResult};
+ghost use Rattle.std.specs.Prelude.{◌≡◌, ◌≢◌, ◌==◌, ℕ, true, not, ◌&&◌, ◌||◌, [], ◌∷◌, ℤ, neg_ℤ, if◌then◌else◌, Ok, Err, MatchOption, MatchResult};
 ghost use Rattle.points.specs.Sets.{member};
-ghost use Rattle.statements.specs.Literals.{names, signed, same_number, listed, clear, bare, opposed, resolvent};
+ghost use Rattle.statements.specs.Literals.{names, point_of, signed, same_number, listed, clear, bare, opposed, resolvent};
 ghost use Rattle.statements.specs.Making.{are_literals, all_asserted, all_denied, extended, made, make_refusal};
 ghost use Rattle.statements.specs.declared.fault.MakeFault.TheVariants.{Magnitude, Opposed};
 
@@ -51,7 +51,7 @@ impl LiteralSet {
     }
 
     // The points that the two sets name oppositely.
-    pub(crate) fn opposed_points(self, other: LiteralSet) -> PointSet
+    pub fn opposed_points(self, other: LiteralSet) -> PointSet
         ensures { (p : ℕ) → member result p ≡ opposed self other p }
     {
         self.yes
@@ -60,8 +60,9 @@ impl LiteralSet {
     }
 
     // All literals of the two sets but those on the point, or nothing where a point would be named both ways.
-    pub(crate) fn resolvent(self, other: LiteralSet, point: Point) -> Option<LiteralSet>
-        ensures { result ≡ resolvent self other point.number }
+    pub fn resolvent(self, other: LiteralSet, point: Point) -> Option<LiteralSet>
+        ensures value { result ≡ resolvent self other point.number }
+        ensures literals { MatchOption result ((q : ℕ) × (q ≢ point.number) × (opposed self other q ≡ true)) (λ s. (z : ℤ) → names s z ≡ ((names self z || names other z) && not (point_of z == point.number))) }
     {
         let yes = self.yes.union(other.yes).without(point);
         let no = self.no.union(other.no).without(point);

@@ -10,11 +10,11 @@ returns-in_err-literals c =
     c.from_residual.ensures
     ∙ sym (ap (option_map clause_of) c.in_err-literals.was)
     ∙ combine-opposed c.args.self.now c.args.other.now p
-    (sym (c.contains.ensures ∙ c.opposed_points.ensures p) ∙ c.if-not-contains.false) c.resolvent.result c.resolvent.ensures
+    (sym (c.contains.ensures ∙ c.opposed_points.ensures p) ∙ c.if-not-contains.false) c.resolvent.result c.resolvent.ensures.value
 
 pub returns : goal.returns
 returns c =
     let p = c.args.point.number in
     sym (ap (option_map clause_of) c.in_ok-literals.was)
     ∙ combine-opposed c.args.self.now c.args.other.now p
-    (sym (c.contains.ensures ∙ c.opposed_points.ensures p) ∙ c.if-not-contains.false) c.resolvent.result c.resolvent.ensures
+    (sym (c.contains.ensures ∙ c.opposed_points.ensures p) ∙ c.if-not-contains.false) c.resolvent.result c.resolvent.ensures.value

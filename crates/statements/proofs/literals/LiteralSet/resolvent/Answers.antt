@@ -1,9 +1,9 @@
 use Rattle.std.proofs.Common.{◌≡◌, sym, ap, ◌∙◌, subst, ap₂}
 use Rattle.points.specs.Sets.{single, without}
 use Rattle.points.specs.declared.set.PointSet.{PointSet}
-use Rattle.literals.specs.Literals.{clear, resolvent}
-use Rattle.literals.proofs.PairLaws.{Resolved, resolved_law}
-use Rattle.literals.proofs.set.LiteralSet.resolvent.Goals as goal
+use Rattle.statements.specs.Literals.{clear, resolvent}
+use Rattle.statements.proofs.PairLaws.{Resolved, resolved_law}
+use Rattle.statements.proofs.literals.LiteralSet.resolvent.Goals as goal
 
 pub returns : goal.returns
 returns c =

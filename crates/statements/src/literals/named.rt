@@ -2,7 +2,7 @@
 ghost use Rattle.std.specs.Prelude.{◌≡◌, ℕ};
 ghost use Rattle.points.specs.Assignments.{says};
 ghost use Rattle.points.specs.Sets.{member};
-ghost use Rattle.literals.specs.Literals.{named, true_at};
+ghost use Rattle.statements.specs.Literals.{named, true_at};
 
 use super::LiteralSet;
 use points::{Assignment, PointSet};

@@ -1,13 +1,14 @@
 -- Two sets of literals: what they have, lack and oppose, and what is left of the two where opposed literals go. Assumes nothing.
-use Rattle.std.proofs.Common.{◌≡◌, ℕ, zero, suc, ◌<◌, ◌≤◌, Bool, true, false, not, ◌&&◌, ◌||◌, eqb, ◌⊎◌, ℤ, pos, negsuc, Decides, Option, sym, refl, ap, ◌∙◌, ap₂, inl, inr, not-suc-le-zero, MatchOption}
-use Rattle.std.proofs.lemmas.Bool.{and_from, and_parts, or_cases, cases_Bool, not-true, eqb-true, eqb-false, true≢false}
+use Rattle.std.proofs.Common.{◌≡◌, ℕ, zero, suc, ◌≤◌, Bool, true, false, not, ◌&&◌, ◌||◌, eqb, ◌⊎◌, ℤ, pos, negsuc, Decides, Option, sym, refl, ap, ◌∙◌, ap₂, inl, inr, not-suc-le-zero, MatchOption}
+use Rattle.std.proofs.lemmas.Bool.{and_from, and_parts, or_cases, cases_Bool, not-true, eqb-false, true≢false}
 use Rattle.std.proofs.lemmas.Bool.Decides.{Decides-and, Decides-like}
 use Rattle.points.specs.Sets.{member, single, joined, without, subset}
 use Rattle.points.specs.declared.set.PointSet.{PointSet}
 use Rattle.points.proofs.Members.{member-joined, member-without, member-single, member_positive, member_small, subset_decides}
-use Rattle.literals.specs.Literals.{names, point_of, within, opposed, resolvent, cancelled, clear}
-use Rattle.literals.specs.declared.set.LiteralSet.{LiteralSet}
-use Rattle.literals.proofs.LiteralLaws.{never_both, Cleared, made_of, both, cleared}
+use Rattle.statements.specs.Literals.{names, point_of, within, opposed, resolvent, cancelled}
+use Rattle.statements.specs.declared.literals.LiteralSet.{LiteralSet}
+use Rattle.statements.specs.LiteralLaws.{never_both}
+use Rattle.statements.proofs.MakeLaws.{Cleared, made_of, both, cleared}
 
 -- ---- whether each literal of the one is in the other
 

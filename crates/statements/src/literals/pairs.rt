@@ -1,10 +1,10 @@
 // Two sets of literals together.
-ghost use Rattle.std.specs.Prelude.{◌≡◌, ℕ, true, not, ◌&&◌, ◌||◌, ℤ, Decides, MatchOption, ◌==◌, ◌≢◌};
+ghost use Rattle.std.specs.Prelude.{◌≡◌, ℕ, true, not, ◌&&◌, ◌||◌, ℤ, Decides};
 ghost use Rattle.points.specs.Sets.{member};
-ghost use Rattle.literals.specs.Literals.{names, point_of, within, lacks, opposed, resolvent, cancelled};
+ghost use Rattle.statements.specs.Literals.{names, point_of, within, lacks, opposed, cancelled};
 
 use super::LiteralSet;
-use points::{Point, PointSet};
+use points::PointSet;
 
 impl LiteralSet {
     // Whether each literal of this set is in the other.
@@ -22,25 +22,6 @@ impl LiteralSet {
         self.yes
             .difference(other.yes)
             .union(self.no.difference(other.no))
-    }
-
-    // The points that the two sets name oppositely.
-    pub fn opposed_points(self, other: LiteralSet) -> PointSet
-        ensures { (p : ℕ) → member result p ≡ opposed self other p }
-    {
-        self.yes
-            .union(other.yes)
-            .intersection(self.no.union(other.no))
-    }
-
-    // All literals of the two sets but those on the point, or nothing where a point would be named both ways.
-    pub fn resolvent(self, other: LiteralSet, point: Point) -> Option<LiteralSet>
-        ensures value { result ≡ resolvent self other point.number }
-        ensures literals { MatchOption result ((q : ℕ) × (q ≢ point.number) × (opposed self other q ≡ true)) (λ s. (z : ℤ) → names s z ≡ ((names self z || names other z) && not (point_of z == point.number))) }
-    {
-        let yes = self.yes.union(other.yes).without(point);
-        let no = self.no.union(other.no).without(point);
-        LiteralSet::of(yes, no)
     }
 
     // All literals of the two sets but those on the points that the two name oppositely.

@@ -1,3 +1,0 @@
-pub mod LiteralLaws
-pub mod MakeLaws
-pub mod PairLaws

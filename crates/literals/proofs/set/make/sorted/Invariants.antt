@@ -1,5 +1,0 @@
-use Rattle.literals.proofs.MakeLaws.{Sorted}
-use Rattle.literals.proofs.set.make.sorted.Given as goal
-
-abbrev pub invariant-loop-number : goal.invariant-loop-number
-invariant-loop-number l = Sorted l.numbers l.number-index l.yes l.no

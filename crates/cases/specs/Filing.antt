@@ -8,8 +8,8 @@ use Rattle.cases.specs.declared.open.OpenCase.{OpenCase}
 -- a new case: nothing is filed, and no supposition stands
 pub record Opened (n : ℕ) (c : OpenCase) : Type 0 where
   pub points_are : c.points ≡ n
-  pub none-filed : c.filed ≡ 0
-  pub none-noted : c.noted ≡ None
+  pub none_filed : c.filed ≡ 0
+  pub none_noted : c.noted ≡ None
 
 -- an accepted statement: it gets the number of those before it, and stands in that row; nothing else changes
 pub record Accepted {S : Type 0} (K : Core S) (c : OpenCase) (table : List S) (s : S) (d : OpenCase) (after : List S) (number : ℕ) : Type 0 where

@@ -17,7 +17,7 @@ use Rattle.statements.specs.Making.{is_literal, are_literals, made, extended}
 use Rattle.statements.specs.declared.clause.Clause.{Clause}
 use Rattle.statements.specs.declared.fault.MakeFault.{MakeFault}
 use Rattle.statements.specs.declared.literals.LiteralSet.{LiteralSet}
-use Rattle.statements.specs.ClauseLaws.{names-point}
+use Rattle.statements.specs.ClauseLaws.{names_point}
 use Rattle.statements.specs.LiteralLaws.{never_both}
 use Rattle.statements.proofs.MakeLaws.{Made, Extended, made_law, extended_law, made_none, made_push, made_of_numbers, literals_append}
 use Rattle.dimacs.specs.Denoting.{and_then, numbers_of, Spells, nothing, clause, OnPoints, Case, Judged}
@@ -26,13 +26,13 @@ use Rattle.dimacs.specs.Steps.{Answers}
 use Rattle.dimacs.specs.declared.fault.Cause.TheVariants.{Long, Count, Open, File}
 use Rattle.dimacs.specs.declared.fault.Fault.{Fault}
 use Rattle.dimacs.proofs.DenoteLaws.{accepted_case, not_ok}
-use Rattle.dimacs.proofs.StepLaws.{added, point-size, token_end, token_literal}
+use Rattle.dimacs.proofs.StepLaws.{added, point_size, token_end, token_literal}
 
 -- ---- the numbers of a group
 
 -- the made set has each number that is listed
-made-names : (zs : List ℤ) (s : LiteralSet) → made zs ≡ Ok s → (z : ℤ) → names s z ≡ listed zs z
-made-names zs s h = subst (Made zs) h (made_law zs)
+made_names : (zs : List ℤ) (s : LiteralSet) → made zs ≡ Ok s → (z : ℤ) → names s z ≡ listed zs z
+made_names zs s h = subst (Made zs) h (made_law zs)
 
 pub listed-append : (xs ys : List ℤ) (z : ℤ) → listed (xs ++ ys) z ≡ (listed xs z || listed ys z)
 unfolding listed
@@ -64,12 +64,12 @@ module _ (xs : List ℤ) (y : ℤ) (ys : List ℤ) (s target : LiteralSet) (befo
   inner_named : names target y ≡ true
   unfolding listed
   inner_named =
-      made-names (xs ++ y ∷ ys) target all y
+      made_names (xs ++ y ∷ ys) target all y
       ∙ listed-append xs (y ∷ ys) y
       ∙ or_right (listed xs y) (listed (y ∷ ys) y) (or_left (same_number y y) (listed ys y) (same_self y))
 
   inner_known : (n : ℕ) → greatest (named (clause_of target)) ≤ n → nat_abs y ≤ n
-  inner_known n h = omega (arith, h, member-last (named (clause_of target)) (point_of y) (names-point (clause_of target) y inner_named), point-size y)
+  inner_known n h = omega (arith, h, member-last (named (clause_of target)) (point_of y) (names_point (clause_of target) y inner_named), point_size y)
 
   inner_extended : (t : LiteralSet) × (extended s y ≡ Ok t)
   inner_extended = go (extended s y) refl
@@ -77,9 +77,9 @@ module _ (xs : List ℤ) (y : ℤ) (ys : List ℤ) (s target : LiteralSet) (befo
       denied : names s (neg_ℤ y) ≡ true → ⊥
       denied h =
           not_both target y inner_literal inner_named
-          (made-names (xs ++ y ∷ ys) target all (neg_ℤ y)
+          (made_names (xs ++ y ∷ ys) target all (neg_ℤ y)
           ∙ listed-append xs (y ∷ ys) (neg_ℤ y)
-          ∙ or_left (listed xs (neg_ℤ y)) (listed (y ∷ ys) (neg_ℤ y)) (sym (made-names xs s before (neg_ℤ y)) ∙ h))
+          ∙ or_left (listed xs (neg_ℤ y)) (listed (y ∷ ys) (neg_ℤ y)) (sym (made_names xs s before (neg_ℤ y)) ∙ h))
 
       go : (r : Result LiteralSet MakeFault) → extended s y ≡ r → (t : LiteralSet) × (extended s y ≡ Ok t)
       go (Ok t) e = (t, e)

@@ -17,7 +17,7 @@ use Rattle.dimacs.specs.Reading.{Progress, Reading, accepted, refused, begun, at
 use Rattle.dimacs.specs.declared.fault.Cause.{Cause}
 use Rattle.dimacs.specs.declared.fault.Cause.TheVariants.{Long, Count, Open}
 use Rattle.dimacs.specs.declared.fault.Fault.{Fault}
-use Rattle.dimacs.proofs.StepLaws.{added_last, bare-last}
+use Rattle.dimacs.proofs.StepLaws.{added_last, bare_last}
 use Rattle.dimacs.proofs.TokenViews.{View, literal, finish, stop, token_view}
 
 pub not_ok : {X E : Type 0} {e : E} {x : X} → Err e ≡ Ok x → ⊥
@@ -76,11 +76,11 @@ module _ (n announced rows end : ℕ) where
       absurd (not_ok (sym (ap (λ (x : Reading). x.answer) (cond-false (eqb (length st.filed) announced) (accepted st.filed n) (refused st.filed Count end) f)) ∙ h))
 
   -- at a token
-  at-token : (t : Piece) (ts : List Piece) → Reads ts → (st : Progress) (zs : List ℤ) → Part st zs → (m : ℕ) → {r : Result Progress Cause} → View n announced rows st t.1 r
+  at_token : (t : Piece) (ts : List Piece) → Reads ts → (st : Progress) (zs : List ℤ) → Part st zs → (m : ℕ) → {r : Result Progress Cause} → View n announced rows st t.1 r
       → (go_on n announced rows end (body n announced rows end ts) st.filed t.0 r).answer ≡ Ok m
       → Rest (t ∷ ts) st zs m (go_on n announced rows end (body n announced rows end ts) st.filed t.0 r)
   unfolding numbers_of
-  at-token t ts on st zs p m (literal z s under is lit low e) h =
+  at_token t ts on st zs p m (literal z s under is lit low e) h =
       let law : (w : ℤ) → names s w ≡ (names st.pending w || same_number w z) = subst (Extended st.pending z) e (extended_law st.pending z lit) in
       let r = on (record { filed = st.filed; pending = s }) (zs ++ z ∷ [])
       (record {
@@ -101,12 +101,12 @@ module _ (n announced rows end : ℕ) where
         points = r.points;
         room = r.room;
       }
-  at-token t ts on st zs p m (finish under is free) h =
+  at_token t ts on st zs p m (finish under is free) h =
       let c = clause_of st.pending in
       let r = on (record { filed = st.filed ++ c ∷ []; pending = bare }) []
       (record {
         group = made_none;
-        known = omega (arith, bare-last);
+        known = omega (arith, bare_last);
         unfinished = inl refl;
         room = omega (arith, length-append st.filed (c ∷ []));
       })
@@ -122,12 +122,12 @@ module _ (n announced rows end : ℕ) where
         points = r.points;
         room = r.room;
       }
-  at-token t ts on st zs p m (stop e) h = absurd (not_ok h)
+  at_token t ts on st zs p m (stop e) h = absurd (not_ok h)
 
   reads : (ts : List Piece) → Reads ts
   unfolding body
   reads [] st zs p m h = at_end_lem st zs p m (cases_Bool (eqb (length st.filed) announced)) h
-  reads (t ∷ ts) st zs p m h = at-token t ts (reads ts) st zs p m (token_view n announced rows st t.1) h
+  reads (t ∷ ts) st zs p m h = at_token t ts (reads ts) st zs p m (token_view n announced rows st t.1) h
 
 -- ---- the whole text
 
@@ -149,7 +149,7 @@ module _ (rows : ℕ) (text : List ℕ) (m : ℕ) where
       accept t k =
           let b = and_parts (leb 1 d.points) (leb d.points 64) t in
           let r = reads d.points d.clauses rows (length text) (tokens after) begun []
-          (record { group = made_none; known = omega (arith, bare-last); unfinished = inl refl; room = omega arith }) m k in
+          (record { group = made_none; known = omega (arith, bare_last); unfinished = inl refl; room = omega arith }) m k in
           let same = r.clauses in
           record {
             short = short;

@@ -13,14 +13,14 @@ use Rattle.statements.specs.declared.clause.Clause.{Clause}
 use Rattle.statements.specs.declared.fault.MakeFault.{MakeFault}
 use Rattle.statements.specs.declared.fault.MakeFault.TheVariants.{Magnitude, Opposed}
 use Rattle.statements.specs.declared.literals.LiteralSet.{LiteralSet}
-use Rattle.statements.specs.ClauseLaws.{names-point}
+use Rattle.statements.specs.ClauseLaws.{names_point}
 use Rattle.statements.specs.LiteralLaws.{never_both, same_literals}
 use Rattle.statements.proofs.MakeLaws.{Made, made_law, literals_append}
 use Rattle.dimacs.specs.Denoting.{Spells, nothing, clause}
 use Rattle.dimacs.specs.Plain.{decimal_of, literal_text, literals_text, clause_lines}
 use Rattle.dimacs.proofs.AcceptLaws.{listed-append}
-use Rattle.dimacs.proofs.PlainNumbers.{decimal-some, decimal-solid, decimal-number, minus_number}
-use Rattle.dimacs.proofs.PlainWords.{Writes, writes-none, writes_more}
+use Rattle.dimacs.proofs.PlainNumbers.{decimal_some, decimal_solid, decimal_number, minus_number}
+use Rattle.dimacs.proofs.PlainWords.{Writes, writes_none, writes_more}
 
 -- the literal on the point k + 1: the point where y is true, else its denial where n is true
 abbrev chosen : ℕ → Bool → Bool → List ℤ
@@ -42,11 +42,11 @@ writes_literal : (k : ℕ) (y n : Bool) (rest : List ℕ) (zs : List ℤ) → su
 writes_literal k true n rest zs h more =
     let ds = decimal_of (suc k) in
     subst (λ bs. Writes bs (pos (suc k) ∷ zs)) (sym (append_assoc ds (32 ∷ []) rest))
-    (writes_more ds 32 rest (pos (suc k)) zs (decimal-some (suc k) h) (decimal-solid (suc k) h) refl (decimal-number (suc k) h) more)
+    (writes_more ds 32 rest (pos (suc k)) zs (decimal_some (suc k) h) (decimal_solid (suc k) h) refl (decimal_number (suc k) h) more)
 writes_literal k false true rest zs h more =
     let ds = decimal_of (suc k) in
     subst (λ bs. Writes (45 ∷ bs) (negsuc k ∷ zs)) (sym (append_assoc ds (32 ∷ []) rest))
-    (writes_more (45 ∷ ds) 32 rest (negsuc k) zs (omega arith) (refl, decimal-solid (suc k) h) refl (minus_number k h) more)
+    (writes_more (45 ∷ ds) 32 rest (negsuc k) zs (omega arith) (refl, decimal_solid (suc k) h) refl (minus_number k h) more)
 writes_literal k false false rest zs h more = more
 
 writes_literals : (c : Clause) (n : ℕ) (rest : List ℕ) (zs : List ℤ) → n ≤ 99999 → Writes rest zs → Writes (literals_text c n ++ rest) (literals_of c n ++ zs)
@@ -147,8 +147,8 @@ module _ (c : Clause) where
       inside s false h = and_right s false refl
 
       bound : (z : ℤ) → names c.literals z ≡ true → nat_abs z ≤ greatest (named c)
-      bound (pos p) h = member-last (named c) p (names-point c (pos p) h)
-      bound (negsuc k) h = member-last (named c) (suc k) (names-point c (negsuc k) h)
+      bound (pos p) h = member-last (named c) p (names_point c (pos p) h)
+      bound (negsuc k) h = member-last (named c) (suc k) (names_point c (negsuc k) h)
 
   -- so the clause is made of its numbers
   own_made : made own_numbers ≡ Ok c.literals
@@ -180,7 +180,7 @@ lines_spell (c ∷ cs) = clause (own_numbers c) c (line_numbers cs) cs (own_made
 
 pub lines_write : (cs : List Clause) → Writes (clause_lines cs) (line_numbers cs)
 unfolding clause_lines line_numbers
-lines_write [] = writes-none
+lines_write [] = writes_none
 lines_write (c ∷ cs) =
     let n = greatest (named c) in
     let few : n ≤ 99999 = omega (arith, (top (named c)).small) in

@@ -55,15 +55,15 @@ digits_written (suc f) v h =
     (λ e. one_digit (suc f) v (ltb-true v 10 e))
     (λ e. one_more (suc f) v (digits_by (suc f) (v / 10)) (digits_written f (v / 10) (omega (arith, pow-suc 10 (suc f)))))
 
-decimal-written : (v : ℕ) → v ≤ 99999 → Written 5 v (decimal_of v)
-decimal-written v h = digits_written 4 v (omega arith)
+decimal_written : (v : ℕ) → v ≤ 99999 → Written 5 v (decimal_of v)
+decimal_written v h = digits_written 4 v (omega arith)
 
-pub decimal-some : (v : ℕ) → v ≤ 99999 → 1 ≤ length (decimal_of v)
-decimal-some v h = (decimal-written v h).some
+pub decimal_some : (v : ℕ) → v ≤ 99999 → 1 ≤ length (decimal_of v)
+decimal_some v h = (decimal_written v h).some
 
 pub decimal_numeral : (v : ℕ) → v ≤ 99999 → numeral_of (decimal_of v) ≡ Some v
 decimal_numeral v h =
-    let w = decimal-written v h in
+    let w = decimal_written v h in
     let count = length (decimal_of v) in
     let fits = and_from (leb 1 count) (leb count 5) (le-leb 1 count w.some) (le-leb count 5 w.few) in
     sym (numeral_is (decimal_of v) fits w.digits) ∙ ap Some w.worth
@@ -87,13 +87,13 @@ no_separator b h = or_from _ (is_line_end b) (or_from (is_blank b) (eqb b 13) (n
 
 module _ (v : ℕ) (h : v ≤ 99999) where
   pub decimal_unbroken : AllByRecursion (λ b. is_line_end b ≡ false) (decimal_of v)
-  decimal_unbroken = each_digit (λ b. is_line_end b ≡ false) no_line_end (decimal_of v) (decimal-written v h).digits
+  decimal_unbroken = each_digit (λ b. is_line_end b ≡ false) no_line_end (decimal_of v) (decimal_written v h).digits
 
   pub decimal_unblank : AllByRecursion (λ b. is_blank b ≡ false) (decimal_of v)
-  decimal_unblank = each_digit (λ b. is_blank b ≡ false) no_blank (decimal_of v) (decimal-written v h).digits
+  decimal_unblank = each_digit (λ b. is_blank b ≡ false) no_blank (decimal_of v) (decimal_written v h).digits
 
-  pub decimal-solid : AllByRecursion (λ b. is_separator b ≡ false) (decimal_of v)
-  decimal-solid = each_digit (λ b. is_separator b ≡ false) no_separator (decimal_of v) (decimal-written v h).digits
+  pub decimal_solid : AllByRecursion (λ b. is_separator b ≡ false) (decimal_of v)
+  decimal_solid = each_digit (λ b. is_separator b ≡ false) no_separator (decimal_of v) (decimal_written v h).digits
 
 -- ---- a number with no minus, and one with a minus
 
@@ -105,8 +105,8 @@ number_digits (b ∷ bs) some h =
     let low = leb-true 48 b (and_parts (leb 48 b) (leb b 57) two.0).0 in
     cond-false (eqb b 45) _ _ (ne_eqb b 45 (λ e. omega arith))
 
-pub decimal-number : (v : ℕ) → v ≤ 99999 → number_of (decimal_of v) ≡ Some (pos v)
-decimal-number v h = let w = decimal-written v h in number_digits (decimal_of v) w.some w.digits ∙ ap plus (decimal_numeral v h)
+pub decimal_number : (v : ℕ) → v ≤ 99999 → number_of (decimal_of v) ≡ Some (pos v)
+decimal_number v h = let w = decimal_written v h in number_digits (decimal_of v) w.some w.digits ∙ ap plus (decimal_numeral v h)
 
 pub minus_number : (k : ℕ) → suc k ≤ 99999 → number_of (45 ∷ decimal_of (suc k)) ≡ Some (negsuc k)
 unfolding number_of

@@ -7,7 +7,7 @@ use Rattle.lexer.specs.Headers.{last_byte}
 use Rattle.lexer.specs.Numerals.{number_of}
 use Rattle.lexer.specs.Text.{is_line_end, is_separator, first_byte, pieces, placed, solid, words, lines_from, tokens_from}
 use Rattle.lexer.specs.declared.pieces.Cut.TheVariants.{Space}
-use Rattle.lexer.proofs.Tokens.{tokens_none, tokens-words}
+use Rattle.lexer.proofs.Tokens.{tokens_none, tokens_words}
 use Rattle.dimacs.specs.Denoting.{and_then, numbers_of}
 
 module _ (cuts : ℕ → Bool) where
@@ -53,14 +53,14 @@ lines_front at line rest h = ap (placed at) (pieces_front is_line_end line 10 re
 abbrev pub Writes : List ℕ → List ℤ → Type 0
 Writes bs zs = (at : ℕ) → numbers_of (tokens_from at bs) ≡ Some zs
 
-pub writes-none : Writes [] []
+pub writes_none : Writes [] []
 unfolding numbers_of
-writes-none at = ap numbers_of (tokens_none at)
+writes_none at = ap numbers_of (tokens_none at)
 
 pub writes_more : (w : List ℕ) (b : ℕ) (rest : List ℕ) (z : ℤ) (zs : List ℤ) → 1 ≤ length w → Whole is_separator w → is_separator b ≡ true
     → number_of w ≡ Some z → Writes rest zs → Writes (w ++ b ∷ rest) (z ∷ zs)
 unfolding numbers_of
 writes_more w b rest z zs some h c e more at =
     let next = at + length w + 1 in
-    ap numbers_of (tokens-words at (w ++ b ∷ rest) ∙ words_front (cuts_at Space) at w b rest some h c ∙ ap (λ ts. (at, w) ∷ ts) (sym (tokens-words next rest)))
+    ap numbers_of (tokens_words at (w ++ b ∷ rest) ∙ words_front (cuts_at Space) at w b rest some h c ∙ ap (λ ts. (at, w) ∷ ts) (sym (tokens_words next rest)))
     ∙ ap₂ and_then e (more next)

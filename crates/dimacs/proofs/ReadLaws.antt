@@ -16,7 +16,7 @@ use Rattle.dimacs.specs.Reading.{refused, begun, body, from_header, from_line, r
 use Rattle.dimacs.specs.Steps.{Ready}
 use Rattle.dimacs.specs.declared.fault.Cause.TheVariants.{Long, Header as BadHeader, Open}
 use Rattle.dimacs.specs.declared.reader.body.Reader.{Reader}
-use Rattle.dimacs.proofs.StepLaws.{bare-last}
+use Rattle.dimacs.proofs.StepLaws.{bare_last}
 
 module _ (rows : ℕ) (text : List ℕ) where
   pub reading_long : 16384 < length text → reading rows text ≡ refused [] Long 16384
@@ -24,26 +24,26 @@ module _ (rows : ℕ) (text : List ℕ) where
   reading_long h =
       cond-false (leb (length text) 16384) (from_line rows (length text) (headed (lines_from 0 text))) (refused [] Long 16384) (lt-leb (length text) 16384 h)
 
-  reading-line : length text ≤ 16384 → (o : Option (Piece × List Piece)) → headed (lines_from 0 text) ≡ o → reading rows text ≡ from_line rows (length text) o
+  reading_line : length text ≤ 16384 → (o : Option (Piece × List Piece)) → headed (lines_from 0 text) ≡ o → reading rows text ≡ from_line rows (length text) o
   unfolding reading
-  reading-line h o e =
+  reading_line h o e =
       cond-true (leb (length text) 16384) (from_line rows (length text) (headed (lines_from 0 text))) (refused [] Long 16384) (le-leb (length text) 16384 h)
       ∙ ap (from_line rows (length text)) e
 
   pub reading_comments : length text ≤ 16384 → headed (lines_from 0 text) ≡ None → reading rows text ≡ refused [] BadHeader (length text)
-  reading_comments h e = reading-line h None e
+  reading_comments h e = reading_line h None e
 
   reading_header : length text ≤ 16384 → (start end : ℕ) (at : HeaderAt text start end) (o : Option Header) → header_of (part start end text) ≡ o
       → reading rows text ≡ from_header rows (length text) start at.after o
   reading_header h start end at o e =
-      reading-line h (Some ((start, part start end text), at.after)) at.first ∙ ap (from_header rows (length text) start at.after) e
+      reading_line h (Some ((start, part start end text), at.after)) at.first ∙ ap (from_header rows (length text) start at.after) e
 
   pub reading_bad : length text ≤ 16384 → (start end : ℕ) → HeaderAt text start end → header_of (part start end text) ≡ None → reading rows text ≡ refused [] BadHeader start
   reading_bad h start end at e = reading_header h start end at None e
 
-  pub reading-points : length text ≤ 16384 → (start end : ℕ) → HeaderAt text start end → (d : Header) → header_of (part start end text) ≡ Some d
+  pub reading_points : length text ≤ 16384 → (start end : ℕ) → HeaderAt text start end → (d : Header) → header_of (part start end text) ≡ Some d
       → (1 ≤ d.points → d.points ≤ 64 → ⊥) → reading rows text ≡ refused [] (Open Points) (start + d.points_at)
-  reading-points h start end at d e out =
+  reading_points h start end at d e out =
       reading_header h start end at (Some d) e
       ∙ cond-false (leb 1 d.points && leb d.points 64) (body d.points d.clauses rows (length text) (tokens at.after) begun) (refused [] (Open Points) (start + d.points_at))
       (outside (cases_Bool (leb 1 d.points && leb d.points 64)))
@@ -52,10 +52,10 @@ module _ (rows : ℕ) (text : List ℕ) where
       outside (inl t) = let b = and_parts (leb 1 d.points) (leb d.points 64) t in absurd (out (leb-true 1 d.points b.0) (leb-true d.points 64 b.1))
       outside (inr f) = f
 
-  pub reading-body : length text ≤ 16384 → (start end : ℕ) → HeaderAt text start end → (d : Header) → header_of (part start end text) ≡ Some d
+  pub reading_body : length text ≤ 16384 → (start end : ℕ) → HeaderAt text start end → (d : Header) → header_of (part start end text) ≡ Some d
       → 1 ≤ d.points → d.points ≤ 64
       → reading rows text ≡ body d.points d.clauses rows (length text) (tokens_from end (drop end text)) begun
-  reading-body h start end at d e low high =
+  reading_body h start end at d e low high =
       reading_header h start end at (Some d) e
       ∙ cond-true (leb 1 d.points && leb d.points 64) (body d.points d.clauses rows (length text) (tokens at.after) begun) (refused [] (Open Points) (start + d.points_at))
       (and_from (leb 1 d.points) (leb d.points 64) (le-leb 1 d.points low) (le-leb d.points 64 high))
@@ -66,6 +66,6 @@ module _ (rows : ℕ) (text : List ℕ) where
 -- a new reader is ready, and has filed nothing
 pub new_ready : (r : Reader) (table : List Clause) → Opened r.case.points r.case → r.literals ≡ bare → Ready r table
 new_ready r table o e = record {
-  rows = omega (arith, o.none-filed);
-  known = omega (arith, ap (λ (l : LiteralSet). greatest (named (clause_of l))) e ∙ bare-last);
+  rows = omega (arith, o.none_filed);
+  known = omega (arith, ap (λ (l : LiteralSet). greatest (named (clause_of l))) e ∙ bare_last);
 }

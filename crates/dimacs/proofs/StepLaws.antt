@@ -15,16 +15,16 @@ use Rattle.statements.specs.Making.{is_literal, extended}
 use Rattle.statements.specs.declared.clause.Clause.{Clause}
 use Rattle.statements.specs.declared.fault.MakeFault.TheVariants.{Magnitude}
 use Rattle.statements.specs.declared.literals.LiteralSet.{LiteralSet}
-use Rattle.statements.specs.ClauseLaws.{named_literal, names-point}
+use Rattle.statements.specs.ClauseLaws.{named_literal, names_point}
 use Rattle.dimacs.specs.Reading.{Progress, end_token, literal_token, as_cause, with_pending, number_token, or_token, token}
 use Rattle.dimacs.specs.Steps.{progress, Ready, Steady, Steps, Adds}
 use Rattle.dimacs.specs.declared.fault.Cause.{Cause}
 use Rattle.dimacs.specs.declared.fault.Cause.TheVariants.{Token, Count, Make, File}
 use Rattle.dimacs.specs.declared.reader.body.Reader.{Reader}
 
-pub bare-last : greatest (named (clause_of bare)) ≡ 0
+pub bare_last : greatest (named (clause_of bare)) ≡ 0
 unfolding bare none joined greatest count_leading_zeros
-bare-last = refl
+bare_last = refl
 
 -- ---- the end of a clause
 
@@ -64,7 +64,7 @@ ended r s table after number ready a same fresh = (step, steady, next, rest, lon
     next : Ready s after
     next = record {
       rows = omega (arith, a.one_more, long, inside);
-      known = omega (arith, ap (λ (l : LiteralSet). greatest (named (clause_of l))) fresh ∙ bare-last);
+      known = omega (arith, ap (λ (l : LiteralSet). greatest (named (clause_of l))) fresh ∙ bare_last);
     }
 
     rest : drop s.case.filed after ≡ drop s.case.filed table
@@ -78,9 +78,9 @@ same_number_lem (pos m) (negsuc n) h = absurd (true≢false (sym h))
 same_number_lem (negsuc m) (pos n) h = absurd (true≢false (sym h))
 same_number_lem (negsuc m) (negsuc n) h = ap negsuc (eqb-true m n h)
 
-pub point-size : (z : ℤ) → point_of z ≡ nat_abs z
-point-size (pos p) = refl
-point-size (negsuc k) = refl
+pub point_size : (z : ℤ) → point_of z ≡ nat_abs z
+point_size (pos p) = refl
+point_size (negsuc k) = refl
 
 -- a literal on a point of the case leaves the literals on points of the case
 pub added_last : (s t : LiteralSet) (z : ℤ) (n : ℕ) → ((w : ℤ) → names t w ≡ (names s w || same_number w z))
@@ -88,8 +88,8 @@ pub added_last : (s t : LiteralSet) (z : ℤ) (n : ℕ) → ((w : ℤ) → names
 added_last s t z n law old new = greatest_below (named (clause_of t)) n bound
   where
     side : (w : ℤ) → (names s w ≡ true) ⊎ (same_number w z ≡ true) → point_of w ≤ n
-    side w (inl h) = omega (arith, member-last (named (clause_of s)) (point_of w) (names-point (clause_of s) w h))
-    side w (inr h) = omega (arith, ap point_of (same_number_lem w z h), point-size z)
+    side w (inl h) = omega (arith, member-last (named (clause_of s)) (point_of w) (names_point (clause_of s) w h))
+    side w (inr h) = omega (arith, ap point_of (same_number_lem w z h), point_size z)
 
     bound : (p : ℕ) → member (named (clause_of t)) p ≡ true → p ≤ n
     bound p m =
@@ -109,25 +109,25 @@ added_large n s z out =
 -- ---- a token
 
 module _ (n announced rows : ℕ) (st : Progress) (bs : List ℕ) where
-  pub token-over : announced ≤ length st.filed → token n announced rows st bs ≡ Err Count
+  pub token_over : announced ≤ length st.filed → token n announced rows st bs ≡ Err Count
   unfolding token
-  token-over h = cond-true (leb announced (length st.filed)) (Err Count) (or_token n rows st (number_of bs)) (le-leb announced (length st.filed) h)
+  token_over h = cond-true (leb announced (length st.filed)) (Err Count) (or_token n rows st (number_of bs)) (le-leb announced (length st.filed) h)
 
-  token-number : length st.filed < announced → (o : Option ℤ) → number_of bs ≡ o → token n announced rows st bs ≡ or_token n rows st o
+  token_number : length st.filed < announced → (o : Option ℤ) → number_of bs ≡ o → token n announced rows st bs ≡ or_token n rows st o
   unfolding token
-  token-number h o e =
+  token_number h o e =
       cond-false (leb announced (length st.filed)) (Err Count) (or_token n rows st (number_of bs)) (lt-leb announced (length st.filed) h)
       ∙ ap (or_token n rows st) e
 
   pub token_stray : length st.filed < announced → number_of bs ≡ None → token n announced rows st bs ≡ Err Token
-  token_stray h e = token-number h None e
+  token_stray h e = token_number h None e
 
   pub token_end : length st.filed < announced → number_of bs ≡ Some (pos 0) → token n announced rows st bs ≡ end_token rows st
-  token_end h e = token-number h (Some (pos 0)) e
+  token_end h e = token_number h (Some (pos 0)) e
 
   pub token_literal : length st.filed < announced → (z : ℤ) → number_of bs ≡ Some z → (z ≡ pos 0 → ⊥)
       → token n announced rows st bs ≡ with_pending st.filed (literal_token n st.pending z)
-  token_literal h z e ne = token-number h (Some z) e ∙ literal z ne
+  token_literal h z e ne = token_number h (Some z) e ∙ literal z ne
     where
       literal : (z : ℤ) → (z ≡ pos 0 → ⊥) → number_token n rows st z ≡ with_pending st.filed (literal_token n st.pending z)
       literal (pos zero) ne = absurd (ne refl)

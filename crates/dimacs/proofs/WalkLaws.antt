@@ -3,7 +3,7 @@ use Rattle.std.proofs.Common.{◌≡◌, ℕ, ◌+◌, ◌-◌, List, [], ◌++�
 use Rattle.lexer.specs.Cuts.{cuts_at, part, FirstWord}
 use Rattle.lexer.specs.Text.{Piece, words, tokens_from}
 use Rattle.lexer.specs.declared.pieces.Cut.TheVariants.{Space}
-use Rattle.lexer.proofs.Tokens.{first-token, no_token}
+use Rattle.lexer.proofs.Tokens.{first_token, no_token}
 use Rattle.statements.specs.declared.clause.Clause.{Clause}
 use Rattle.dimacs.specs.Reading.{Progress, Reading, token, go_on, at_end, body, over}
 use Rattle.dimacs.specs.Steps.{progress, Ready, Steady, Steps, Walks}
@@ -40,7 +40,7 @@ module _ (text : List ℕ) (from at : ℕ) (r : Reader) (table : List Clause) (s
   next start end f =
       let go : Result Progress Cause → Reading = go_on r.case.points r.announced (length table) (length text)
       (body r.case.points r.announced (length table) (length text) (tokens_from end (drop end text))) (progress s now).filed start in
-      ap (λ (ts : List Piece). body r.case.points r.announced (length table) (length text) ts (progress s now)) (first-token text at start end f)
+      ap (λ (ts : List Piece). body r.case.points r.announced (length table) (length text) ts (progress s now)) (first_token text at start end f)
       ∙ ap (λ (n : ℕ). go (token n r.announced (length table) (progress s now) (part start end text))) (sym w.steady.points)
       ∙ ap (λ (n : ℕ). go (token s.case.points n (length table) (progress s now) (part start end text))) (sym w.steady.announced)
       ∙ ap (λ (n : ℕ). go (token s.case.points s.announced n (progress s now) (part start end text))) (sym w.long)

@@ -46,16 +46,16 @@ abbrev pub ReadsBack : Type 0
 ReadsBack = (rows n : ℕ) (cs : List Clause) → 1 ≤ n → n ≤ 64 → OnPoints n cs → length cs ≤ usable rows → length (plain n cs) ≤ 16384 → reading rows (plain n cs) ≡ accepted cs n
 
 -- two clauses: the points 1 and 2, and the denial of 1 with the point 3
-unfoldable pub first-clause : Clause
+unfoldable pub first_clause : Clause
 unfolding common is_empty
-first-clause = clause_of (record { yes = record { bits = 3; within = lit< tt }; no = record { bits = 0; within = lit< tt }; apart = refl })
+first_clause = clause_of (record { yes = record { bits = 3; within = lit< tt }; no = record { bits = 0; within = lit< tt }; apart = refl })
 
 unfoldable pub second_clause : Clause
 unfolding common is_empty
 second_clause = clause_of (record { yes = record { bits = 4; within = lit< tt }; no = record { bits = 1; within = lit< tt }; apart = refl })
 
 unfoldable pub two_clauses : List Clause
-two_clauses = first-clause ∷ second_clause ∷ []
+two_clauses = first_clause ∷ second_clause ∷ []
 
 -- a case on three points
 abbrev pub Example : Type 0

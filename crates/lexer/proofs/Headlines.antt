@@ -9,7 +9,7 @@ use Rattle.lexer.specs.Cuts.{part, FirstWord}
 use Rattle.lexer.specs.Numerals.{numeral_of}
 use Rattle.lexer.specs.Headers.{begins_with, last_byte, counts, fields, fields_of, header_of}
 use Rattle.lexer.specs.declared.headers.Header.{Header}
-use Rattle.lexer.proofs.Words.{words-none, words_inside, last_word, last_cut}
+use Rattle.lexer.proofs.Words.{words_none, words_inside, last_word, last_cut}
 use Rattle.lexer.proofs.Decimals.{numeral_small}
 
 last-drop : (bs : List ℕ) (i : ℕ) → i < length bs → last_byte (drop i bs) ≡ last_byte bs
@@ -92,7 +92,7 @@ module _ (line : List ℕ) where
               let size : run is_blank (drop s₄ line) ≡ length (drop s₄ line) = omega (arith, w₄.ends, length-drop s₄ line) in
               let left : 0 < length (drop s₄ line) = omega (arith, length-drop s₄ line) in
               let solid-end : is_blank (last_byte line) ≡ false = ap is_blank (sym (last-drop line s₄ inside)) ∙ last_word is_blank (drop s₄ line) size left in
-              let none : words is_blank e₄ (drop e₄ line) ≡ [] = ap (words is_blank e₄) (drop_all e₄ line (omega arith)) ∙ words-none is_blank e₄ in
+              let none : words is_blank e₄ (drop e₄ line) ≡ [] = ap (words is_blank e₄) (drop_all e₄ line (omega arith)) ∙ words_none is_blank e₄ in
               cond-false _ _ _ solid-end ∙ ap fields (after_four ∙ ap (λ ws. (s₁, part s₁ e₁ line) ∷ (s₂, part s₂ e₂ line) ∷ (s₃, part s₃ e₃ line) ∷ (s₄, part s₄ e₄ line) ∷ ws) none)
 
           module _ (ended : e₄ ≡ length line) where

@@ -14,9 +14,9 @@ module _ (text : List ℕ) (start end : ℕ) (h : start ≤ length text) (e : en
   abbrev pub others : List Piece
   others = placed (end + 1) (later is_line_end (drop end text))
 
-  first-line : lines_from start (drop start text) ≡ (start, part start end text) ∷ others
+  first_line : lines_from start (drop start text) ≡ (start, part start end text) ∷ others
   unfolding lines_from placed
-  first-line =
+  first_line =
       let ds = drop start text in
       let n = run is_line_end ds in
       let long : length (take n ds) ≡ n = length-take-le n ds (run_le is_line_end ds) in
@@ -46,18 +46,18 @@ module _ (text : List ℕ) (start end : ℕ) (h : start ≤ length text) (e : en
   -- a comment is passed over
   pub comment_more : begins_with 99 (part start end text) ≡ true → end < length text → headed (lines_from start (drop start text)) ≡ headed (lines_from (end + 1) (drop (end + 1) text))
   unfolding headed
-  comment_more b k = ap headed first-line ∙ cond-true _ _ _ b ∙ ap headed (others_more k)
+  comment_more b k = ap headed first_line ∙ cond-true _ _ _ b ∙ ap headed (others_more k)
 
   pub comment_last : begins_with 99 (part start end text) ≡ true → length text ≤ end → headed (lines_from start (drop start text)) ≡ None
   unfolding headed
-  comment_last b k = ap headed first-line ∙ cond-true _ _ _ b ∙ ap headed (others_none k)
+  comment_last b k = ap headed first_line ∙ cond-true _ _ _ b ∙ ap headed (others_none k)
 
   -- any other line is the header line
   pub header_here : headed (lines_from start (drop start text)) ≡ headed (lines_from 0 text) → begins_with 99 (part start end text) ≡ false → HeaderAt text start end
   unfolding headed
   header_here same b = record {
     after = others;
-    first = sym same ∙ ap headed first-line ∙ cond-false _ _ _ b;
+    first = sym same ∙ ap headed first_line ∙ cond-false _ _ _ b;
     ordered = omega arith;
     inside = run_inside is_line_end text start end h e;
     rest = others_tokens;

@@ -3,7 +3,7 @@ use Rattle.std.proofs.Common.{◌≡◌, ℕ, ◌+◌, true, false, cond, ◌||�
 use Rattle.lexer.specs.Text.{Piece, is_line_end, is_space, is_separator, run, first_byte, pieces, placed, keep, solid, words, lines_from, tokens, tokens_from}
 use Rattle.lexer.specs.Cuts.{cuts_at, part, FirstWord}
 use Rattle.lexer.specs.declared.pieces.Cut.TheVariants.{Space}
-use Rattle.lexer.proofs.Words.{later, pieces-run, extent, extent_pieces, words-none}
+use Rattle.lexer.proofs.Words.{later, pieces-run, extent, extent_pieces, words_none}
 
 keep_append : (at : ℕ) (p : List ℕ) (ps qs : List Piece) → keep at p (ps ++ qs) ≡ keep at p ps ++ qs
 keep_append at [] ps qs = refl
@@ -52,32 +52,32 @@ splits_lines (b ∷ bs) =
     elim (is_space b) as (λ t. cond t ([] ∷ ps) (first_byte b ps) ≡ cond (t || false) ([] ∷ ps) (first_byte b ps)) [ true ↦ refl | false ↦ refl ] in
     elim (is_line_end b) as (λ t. splits (cond t ([] ∷ pieces is_line_end bs) (first_byte b (pieces is_line_end bs))) ≡ cond (is_space b || t) ([] ∷ ps) (first_byte b ps)) [ true ↦ ap (λ q. [] ∷ q) more ∙ ended | false ↦ on ∙ inner ]
 
-tokens-placed : (at : ℕ) (ps : List (List ℕ)) → tokens (placed at ps) ≡ solid (placed at (splits ps))
+tokens_placed : (at : ℕ) (ps : List (List ℕ)) → tokens (placed at ps) ≡ solid (placed at (splits ps))
 unfolding tokens placed splits solid words
-tokens-placed at [] = refl
-tokens-placed at (p ∷ ps) =
+tokens_placed at [] = refl
+tokens_placed at (p ∷ ps) =
     let next = at + length p + 1 in
     let size : at + extent (pieces is_space p) ≡ next = omega (arith, extent_pieces is_space p) in
-    ap (λ ts. words is_space at p ++ ts) (tokens-placed next ps)
+    ap (λ ts. words is_space at p ++ ts) (tokens_placed next ps)
     ∙ sym (solid-append (placed at (pieces is_space p)) (placed next (splits ps)))
     ∙ ap (λ k. solid (placed at (pieces is_space p) ++ placed k (splits ps))) (sym size)
     ∙ ap solid (sym (placed-append at (pieces is_space p) (splits ps)))
 
 -- the tokens of a text are its words between separators
-pub tokens-words : (at : ℕ) (bs : List ℕ) → tokens_from at bs ≡ words (cuts_at Space) at bs
+pub tokens_words : (at : ℕ) (bs : List ℕ) → tokens_from at bs ≡ words (cuts_at Space) at bs
 unfolding tokens_from lines_from words
-tokens-words at bs = tokens-placed at (pieces is_line_end bs) ∙ ap (λ ps. solid (placed at ps)) (splits_lines bs)
+tokens_words at bs = tokens_placed at (pieces is_line_end bs) ∙ ap (λ ps. solid (placed at ps)) (splits_lines bs)
 
 pub tokens_none : (at : ℕ) → tokens_from at [] ≡ []
-tokens_none at = tokens-words at [] ∙ words-none (cuts_at Space) at
+tokens_none at = tokens_words at [] ∙ words_none (cuts_at Space) at
 
 -- where `next_word` finds no word, or one, between separators
 pub no_token : (text : List ℕ) (from : ℕ) → words (cuts_at Space) from (drop from text) ≡ [] → tokens_from from (drop from text) ≡ []
-no_token text from e = tokens-words from (drop from text) ∙ e
+no_token text from e = tokens_words from (drop from text) ∙ e
 
-pub first-token : (text : List ℕ) (from start end : ℕ) → FirstWord (cuts_at Space) text from start end → tokens_from from (drop from text) ≡ (start, part start end text) ∷ tokens_from end (drop end text)
-first-token text from start end w =
-    tokens-words from (drop from text) ∙ w.split ∙ ap (λ ts. (start, part start end text) ∷ ts) (sym (tokens-words end (drop end text)))
+pub first_token : (text : List ℕ) (from start end : ℕ) → FirstWord (cuts_at Space) text from start end → tokens_from from (drop from text) ≡ (start, part start end text) ∷ tokens_from end (drop end text)
+first_token text from start end w =
+    tokens_words from (drop from text) ∙ w.split ∙ ap (λ ts. (start, part start end text) ∷ ts) (sym (tokens_words end (drop end text)))
 
 -- a line end before the tokens does not matter
 pub tokens_line_end : (at b : ℕ) (bs : List ℕ) → is_line_end b ≡ true → tokens_from at (b ∷ bs) ≡ tokens_from (at + 1) bs

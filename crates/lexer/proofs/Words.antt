@@ -41,8 +41,8 @@ module _ (cuts : ℕ → Bool) where
       let front : n ≡ run cuts (drop from text) = run_front n (drop from text) (λ k l. ap cuts (reads k) ∙ on (from + k) (omega arith) (omega arith)) (omega (arith, length-drop from text)) (λ l. ap cuts (reads n ∙ ap (λ i. get_or text i 0) back) ∙ stop (omega (arith, length-drop from text))) in
       omega arith
 
-  run-some : (text : List ℕ) (i : ℕ) → i < length text → cuts (get_or text i 0) ≡ false → 0 < run cuts (drop i text)
-  run-some text i h e = simp (drop_more text i 0 h, e) (omega arith)
+  run_some : (text : List ℕ) (i : ℕ) → i < length text → cuts (get_or text i 0) ≡ false → 0 < run cuts (drop i text)
+  run_some text i h e = simp (drop_more text i 0 h, e) (omega arith)
 
   -- the end of the run that begins at a place of a text
   pub run_inside : (text : List ℕ) (from end : ℕ) → from ≤ length text → end ≡ from + run cuts (drop from text) → end ≤ length text
@@ -102,9 +102,9 @@ module _ (cuts : ℕ → Bool) where
   words_inside at bs =
       solid_every (λ w. w.0 + length w.1 < at + length bs + 1) (placed at (pieces cuts bs)) (placed-inside at (at + length bs + 1) (pieces cuts bs) (omega (arith, extent_pieces bs)))
 
-  pub words-none : (at : ℕ) → words cuts at [] ≡ []
+  pub words_none : (at : ℕ) → words cuts at [] ≡ []
   unfolding words pieces placed solid
-  words-none at = refl
+  words_none at = refl
 
   words_cut : (at b : ℕ) (bs : List ℕ) → cuts b ≡ true → words cuts at (b ∷ bs) ≡ words cuts (at + 1) bs
   unfolding words pieces placed solid
@@ -141,7 +141,7 @@ module _ (cuts : ℕ → Bool) where
       words_skip from (drop from text) ∙ ap (λ ds. words cuts (from + r) ds) (drop-drop r from text) ∙ ap (λ k. words cuts k (drop k text)) (sym e)
 
   pub no_word : (text : List ℕ) (from start : ℕ) → start ≡ from + run (λ b. not (cuts b)) (drop from text) → length text ≤ start → words cuts from (drop from text) ≡ []
-  no_word text from start e h = words_from text from start e ∙ ap (words cuts start) (drop_all start text h) ∙ words-none start
+  no_word text from start e h = words_from text from start e ∙ ap (words cuts start) (drop_all start text h) ∙ words_none start
 
   pub word_at : (text : List ℕ) (start end : ℕ) → end ≡ start + run cuts (drop start text) → start < length text → cuts (get_or text start 0) ≡ false → WordAt cuts text start end
   word_at text start end e h letter =
@@ -150,7 +150,7 @@ module _ (cuts : ℕ → Bool) where
       let P : List ℕ → Type 0 = λ bs. words cuts start bs ≡ (start, take (run cuts bs) bs) ∷ words cuts (start + run cuts bs) (drop (run cuts bs) bs) in
       let split : P (drop start text) = subst P (sym (drop_more text start 0 h)) (words_take start (get_or text start 0) (drop (start + 1) text) letter) in
       record {
-        some = omega (arith, run-some cuts text start h letter);
+        some = omega (arith, run_some cuts text start h letter);
         inside = run_inside cuts text start end (omega arith) e;
         ends = e;
         split = split ∙ ap (λ ds. (start, take n (drop start text)) ∷ words cuts (start + n) ds) (drop-drop n start text) ∙ ap (λ k. (start, take n (drop start text)) ∷ words cuts k (drop k text)) (sym e) ∙ ap (λ k. (start, take k (drop start text)) ∷ words cuts end (drop end text)) size;

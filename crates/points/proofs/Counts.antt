@@ -33,10 +33,10 @@ counted_agree P Q (suc k) h =
     ap₂ (λ (b : Bool) (m : ℕ). cond b 1 0 + m) (h (suc k) (omega arith) (omega arith)) (counted_agree P Q k (λ p l u. h p l (omega arith)))
 
 -- a property within another is counted at most as often
-pub counted-within : (P Q : ℕ → Bool) (n : ℕ) → ((p : ℕ) → P p ≡ true → Q p ≡ true) → counted P n ≤ counted Q n
+pub counted_within : (P Q : ℕ → Bool) (n : ℕ) → ((p : ℕ) → P p ≡ true → Q p ≡ true) → counted P n ≤ counted Q n
 unfolding counted
-counted-within P Q zero h = omega arith
-counted-within P Q (suc k) h = let rest = counted-within P Q k h in let here = step (P (suc k)) (Q (suc k)) (h (suc k)) in omega arith
+counted_within P Q zero h = omega arith
+counted_within P Q (suc k) h = let rest = counted_within P Q k h in let here = step (P (suc k)) (Q (suc k)) (h (suc k)) in omega arith
   where
     step : (x y : Bool) → (x ≡ true → y ≡ true) → cond x 1 0 ≤ cond y 1 0
     step true true f = omega arith

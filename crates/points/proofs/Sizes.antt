@@ -74,8 +74,8 @@ greatest_below s n h = go (greatest s) refl
     go (suc k) e = omega (arith, h (suc k) ((top s).there k e))
 
 -- a set that is not empty has its greatest for a member
-pub some-member : (s : PointSet) → is_empty s ≡ false → (p : ℕ) × (member s p ≡ true)
-some-member s h = go (greatest s) refl
+pub some_member : (s : PointSet) → is_empty s ≡ false → (p : ℕ) × (member s p ≡ true)
+some_member s h = go (greatest s) refl
   where
     go : (g : ℕ) → greatest s ≡ g → (p : ℕ) × (member s p ≡ true)
     go zero e = absurd (both_ways (is_empty s) h ((empty_decides s).1 (λ p. none p)))

@@ -7,7 +7,7 @@ use Rattle.std.specs.Option.{ok_or}
 use Rattle.points.specs.Sets.{member, none, single, joined, common, is_empty}
 use Rattle.points.specs.declared.set.PointSet.{PointSet}
 use Rattle.points.proofs.Members.{member-none, member-single, member-joined, member-common, member_positive, same_members}
-use Rattle.points.proofs.Sizes.{some-member}
+use Rattle.points.proofs.Sizes.{some_member}
 use Rattle.statements.specs.Literals.{names, signed, same_number, listed, clear, bare}
 use Rattle.statements.specs.Making.{is_literal, are_literals, asserted, denied, all_asserted, all_denied, made, extended, make_refusal}
 use Rattle.statements.specs.declared.fault.MakeFault.{MakeFault}
@@ -16,7 +16,7 @@ use Rattle.points.specs.declared.point.Point.{Point}
 use Rattle.statements.specs.declared.literals.Literal.{Literal}
 use Rattle.statements.specs.declared.literals.Literal.TheVariants.{Positive, Negative}
 use Rattle.statements.specs.declared.literals.LiteralSet.{LiteralSet}
-use Rattle.statements.specs.LiteralLaws.{never_both, clear_none, clear-some, clear-parts}
+use Rattle.statements.specs.LiteralLaws.{never_both, clear_none, clear_some, clear_parts}
 
 -- ---- joining sets
 
@@ -27,8 +27,8 @@ joined-none s = same_members (joined s none) s (λ p. member-joined s none p ∙
     or_no true = refl
     or_no false = refl
 
-none-joined : (s : PointSet) → joined none s ≡ s
-none-joined s = same_members (joined none s) s (λ p. member-joined none s p ∙ ap (λ (t : Bool). t || member s p) (member-none p))
+none_joined : (s : PointSet) → joined none s ≡ s
+none_joined s = same_members (joined none s) s (λ p. member-joined none s p ∙ ap (λ (t : Bool). t || member s p) (member-none p))
 
 joined_assoc : (s t u : PointSet) → joined (joined s t) u ≡ joined s (joined t u)
 joined_assoc s t u =
@@ -47,12 +47,12 @@ joined_assoc s t u =
 
 pub asserted_push : (zs : List ℤ) (z : ℤ) → all_asserted (zs ++ z ∷ []) ≡ joined (all_asserted zs) (asserted z)
 unfolding all_asserted
-asserted_push [] z = joined-none (asserted z) ∙ sym (none-joined (asserted z))
+asserted_push [] z = joined-none (asserted z) ∙ sym (none_joined (asserted z))
 asserted_push (x ∷ zs) z = ap (joined (asserted x)) (asserted_push zs z) ∙ sym (joined_assoc (asserted x) (all_asserted zs) (asserted z))
 
 pub denied_push : (zs : List ℤ) (z : ℤ) → all_denied (zs ++ z ∷ []) ≡ joined (all_denied zs) (denied z)
 unfolding all_denied
-denied_push [] z = joined-none (denied z) ∙ sym (none-joined (denied z))
+denied_push [] z = joined-none (denied z) ∙ sym (none_joined (denied z))
 denied_push (x ∷ zs) z = ap (joined (denied x)) (denied_push zs z) ∙ sym (joined_assoc (denied x) (all_denied zs) (denied z))
 
 pub literals_append : (xs ys : List ℤ) → are_literals (xs ++ ys) ≡ (are_literals xs && are_literals ys)
@@ -109,9 +109,9 @@ cleared y n = go (cases_Bool (is_empty (common y n)))
     go : (is_empty (common y n) ≡ true) ⊎ (is_empty (common y n) ≡ false) → Cleared y n (clear y n)
     go (inl e) =
         let s : LiteralSet = record { yes = y; no = n; apart = e } in
-        subst (Cleared y n) (sym (clear-some s)) (made_of s refl refl)
+        subst (Cleared y n) (sym (clear_some s)) (made_of s refl refl)
     go (inr e) =
-        let m = some-member (common y n) e in
+        let m = some_member (common y n) e in
         let b = and_parts (member y m.0) (member n m.0) (sym (member-common y n m.0) ∙ m.1) in
         subst (Cleared y n) (sym (clear_none y n e)) (positive y n m.0 b.0 b.1)
 
@@ -279,9 +279,9 @@ pub made_sorted : (zs : List ℤ) (y n : PointSet) (r : Result (PointSet × Poin
 unfolding then_clear
 made_sorted zs y n r e f = ap then_clear (sym e ∙ f) ∙ then_made zs
 
-pub made-refused : (zs : List ℤ) (e : MakeFault) (r : Result (PointSet × PointSet) MakeFault) → r ≡ Err e → r ≡ sorted_of zs → Err e ≡ made zs
+pub made_refused : (zs : List ℤ) (e : MakeFault) (r : Result (PointSet × PointSet) MakeFault) → r ≡ Err e → r ≡ sorted_of zs → Err e ≡ made zs
 unfolding then_clear
-made-refused zs e r g f = ap then_clear (sym g ∙ f) ∙ then_made zs
+made_refused zs e r g f = ap then_clear (sym g ∙ f) ∙ then_made zs
 
 -- ---- one number more at a time
 
@@ -301,7 +301,7 @@ made_of_numbers zs s h = go (cases_Bool (are_literals zs))
   where
     go : (are_literals zs ≡ true) ⊎ (are_literals zs ≡ false) → MadeOf zs s
     go (inl t) =
-        let parts = clear-parts (all_asserted zs) (all_denied zs) s
+        let parts = clear_parts (all_asserted zs) (all_denied zs) s
         (ok_or_some (clear (all_asserted zs) (all_denied zs)) Opposed s
         (sym (cond-true (are_literals zs) (ok_or (clear (all_asserted zs) (all_denied zs)) Opposed) (Err Magnitude) t) ∙ h)) in
         record { are = t; yes_is = parts.0; no_is = parts.1 }
@@ -311,7 +311,7 @@ made_of_numbers zs s h = go (cases_Bool (are_literals zs))
 -- of no number the set of no literal is made
 pub made_none : made [] ≡ Ok bare
 unfolding made are_literals all_asserted all_denied bare
-made_none = ap (λ (o : Option LiteralSet). ok_or o Opposed) (clear-some bare)
+made_none = ap (λ (o : Option LiteralSet). ok_or o Opposed) (clear_some bare)
 
 -- the last number comes to what is made of the others
 pub made_push : (zs : List ℤ) (z : ℤ) (s : LiteralSet) → made zs ≡ Ok s → is_literal z ≡ true → made (zs ++ z ∷ []) ≡ extended s z

@@ -107,19 +107,19 @@ Resolved s t p r =
     MatchOption r ((q : ℕ) × (q ≡ p → ⊥) × (opposed s t q ≡ true)) (λ u. (z : ℤ) → names u z ≡ ((names s z || names t z) && not (eqb (point_of z) p)))
 
 module _ (s t : LiteralSet) (p : ℕ) (low : 1 ≤ p) (high : p ≤ 64) where
-  rest-member : (u v : PointSet) (q : ℕ) → member (without (joined u v) (single p)) q ≡ ((member u q || member v q) && not (eqb q p))
-  rest-member u v q =
+  rest_member : (u v : PointSet) (q : ℕ) → member (without (joined u v) (single p)) q ≡ ((member u q || member v q) && not (eqb q p))
+  rest_member u v q =
       member-without (joined u v) (single p) q ∙ ap₂ (λ (x y : Bool). x && not y) (member-joined u v q) (member-single p q low high)
 
   resolved_from : {o : Option LiteralSet} → Cleared (without (joined s.yes t.yes) (single p)) (without (joined s.no t.no) (single p)) o → Resolved s t p o
   resolved_from (made_of u e f) = at
     where
       at : (z : ℤ) → names u z ≡ ((names s z || names t z) && not (eqb (point_of z) p))
-      at (pos q) = ap (λ (w : PointSet). member w q) e ∙ rest-member s.yes t.yes q
-      at (negsuc k) = ap (λ (w : PointSet). member w (suc k)) f ∙ rest-member s.no t.no (suc k)
+      at (pos q) = ap (λ (w : PointSet). member w q) e ∙ rest_member s.yes t.yes q
+      at (negsuc k) = ap (λ (w : PointSet). member w (suc k)) f ∙ rest_member s.no t.no (suc k)
   resolved_from (both k y n) =
-      let a = and_parts (member s.yes (suc k) || member t.yes (suc k)) (not (eqb (suc k) p)) (sym (rest-member s.yes t.yes (suc k)) ∙ y) in
-      let b = and_parts (member s.no (suc k) || member t.no (suc k)) (not (eqb (suc k) p)) (sym (rest-member s.no t.no (suc k)) ∙ n) in
+      let a = and_parts (member s.yes (suc k) || member t.yes (suc k)) (not (eqb (suc k) p)) (sym (rest_member s.yes t.yes (suc k)) ∙ y) in
+      let b = and_parts (member s.no (suc k) || member t.no (suc k)) (not (eqb (suc k) p)) (sym (rest_member s.no t.no (suc k)) ∙ n) in
       (suc k, eqb-false (suc k) p (not-true (eqb (suc k) p) a.1), sym (opposed_both s t (suc k)) ∙ and_from (member s.yes (suc k) || member t.yes (suc k)) (member s.no (suc k) || member t.no (suc k)) a.0 b.0)
 
   pub resolved_law : Resolved s t p (resolvent s t p)

@@ -7,19 +7,19 @@ use Rattle.std.specs.Option.{option_map}
 use Rattle.points.specs.Sets.{member, single, joined, without, is_empty, subset, greatest, some_of}
 use Rattle.points.specs.declared.set.PointSet.{PointSet}
 use Rattle.points.proofs.Members.{member-joined, member-without, member-single, member_positive, member_small, empty_decides, subset_decides, some_not_empty}
-use Rattle.points.proofs.Sizes.{member-last, greatest_below, some-member}
-use Rattle.points.proofs.Counts.{some_decides}
+use Rattle.points.proofs.Sizes.{member-last, greatest_below, some_member}
+use Rattle.points.proofs.Counts.{some_decides, some_agree}
 use Rattle.statements.specs.Kind.{Sound, Exact}
 use Rattle.statements.specs.Literals.{names, point_of, true_in, opposed, resolvent}
 use Rattle.statements.specs.Clauses.{clause_core, clause_kind, clause_of, Fits, named, true_at}
 use Rattle.statements.specs.declared.clause.Clause.{Clause}
 use Rattle.statements.specs.declared.literals.LiteralSet.{LiteralSet}
-use Rattle.statements.specs.LiteralLaws.{never_both, clear-parts}
+use Rattle.statements.specs.LiteralLaws.{never_both, clear_parts}
 
 -- the point of a literal of the clause is one that it names
-pub names-point : (c : Clause) (z : ℤ) → names c.literals z ≡ true → member (named c) (point_of z) ≡ true
-names-point c (pos p) h = member-joined c.literals.yes c.literals.no p ∙ or_left (member c.literals.yes p) (member c.literals.no p) h
-names-point c (negsuc k) h = member-joined c.literals.yes c.literals.no (suc k) ∙ or_right (member c.literals.yes (suc k)) (member c.literals.no (suc k)) h
+pub names_point : (c : Clause) (z : ℤ) → names c.literals z ≡ true → member (named c) (point_of z) ≡ true
+names_point c (pos p) h = member-joined c.literals.yes c.literals.no p ∙ or_left (member c.literals.yes p) (member c.literals.no p) h
+names_point c (negsuc k) h = member-joined c.literals.yes c.literals.no (suc k) ∙ or_right (member c.literals.yes (suc k)) (member c.literals.no (suc k)) h
 
 -- ---- holds
 
@@ -47,14 +47,9 @@ holds_yes c a h = let f = (some_decides (true_at c a) (greatest (named c))).0 h 
 
 pub holds_no : (c : Clause) (a : ℕ → Bool) → Fits c a → some_of (true_at c a) (greatest (named c)) ≡ true
 holds_no c a f =
-    let m = names-point c f.0 f.1 in
+    let m = names_point c f.0 f.1 in
     (some_decides (true_at c a) (greatest (named c))).1
     (point_of f.0, member_positive (named c) (point_of f.0) m, member-last (named c) (point_of f.0) m, true_at_lem c a f.0 f.1 f.2)
-
-some_agree : (P Q : ℕ → Bool) (n : ℕ) → ((p : ℕ) → 1 ≤ p → p ≤ n → P p ≡ Q p) → some_of P n ≡ some_of Q n
-unfolding some_of
-some_agree P Q zero h = refl
-some_agree P Q (suc k) h = ap₂ (λ (x y : Bool). x || y) (h (suc k) (omega arith) (omega arith)) (some_agree P Q k (λ p l u. h p l (omega arith)))
 
 near : (c : Clause) (a b : ℕ → Bool) → ((p : ℕ) → 1 ≤ p → p ≤ greatest (named c) → a p ≡ b p)
     → some_of (true_at c a) (greatest (named c)) ≡ some_of (true_at c b) (greatest (named c))
@@ -66,7 +61,7 @@ near c a b h =
 pub holds_set : (c : Clause) (a : ℕ → Bool) (s : PointSet) → ((p : ℕ) → member s p ≡ true_at c a p) → not (is_empty s) ≡ some_of (true_at c a) (greatest (named c))
 holds_set c a s at =
     same_from_decides (not (is_empty s)) (some_of (true_at c a) (greatest (named c))) (
-      λ e. let m = some-member s (not-true (is_empty s) e) in from_true_at c a m.0 (sym (at m.0) ∙ m.1),
+      λ e. let m = some_member s (not-true (is_empty s) e) in from_true_at c a m.0 (sym (at m.0) ∙ m.1),
       λ f. not_from_false (is_empty s) (some_not_empty s (point_of f.0) (at (point_of f.0) ∙ true_at_lem c a f.0 f.1 f.2)),
     )
     (holds_yes c a, holds_no c a)
@@ -75,7 +70,7 @@ holds_set c a s at =
 
 impossible_yes : (c : Clause) → is_empty (named c) ≡ true → (a : ℕ → Bool) → Fits c a → ⊥
 impossible_yes c e a f =
-    both_ways (member (named c) (point_of f.0)) ((empty_decides (named c)).0 e (point_of f.0)) (names-point c f.0 f.1)
+    both_ways (member (named c) (point_of f.0)) ((empty_decides (named c)).0 e (point_of f.0)) (names_point c f.0 f.1)
 
 impossible_no : (c : Clause) → ((a : ℕ → Bool) → Fits c a → ⊥) → is_empty (named c) ≡ true
 impossible_no c h = go (cases_Bool (is_empty (named c)))
@@ -87,7 +82,7 @@ impossible_no c h = go (cases_Bool (is_empty (named c)))
     go : (is_empty (named c) ≡ true) ⊎ (is_empty (named c) ≡ false) → is_empty (named c) ≡ true
     go (inl e) = e
     go (inr e) =
-        let s = some-member (named c) e in
+        let s = some_member (named c) e in
         absurd (point s.0
         (or_cases (member c.literals.yes s.0) (member c.literals.no s.0)
         (sym (member-joined c.literals.yes c.literals.no s.0) ∙ s.1)))
@@ -154,8 +149,8 @@ clause_exact = record {
 -- ---- combine
 
 -- what the resolvent names: the literals of either, but not those on p
-rest-member : (s t : PointSet) (p q : ℕ) → 1 ≤ p → p ≤ 64 → member (without (joined s t) (single p)) q ≡ ((member s q || member t q) && not (q == p))
-rest-member s t p q low high =
+rest_member : (s t : PointSet) (p q : ℕ) → 1 ≤ p → p ≤ 64 → member (without (joined s t) (single p)) q ≡ ((member s q || member t q) && not (q == p))
+rest_member s t p q low high =
     member-without (joined s t) (single p) q
     ∙ ap₂ (λ (x y : Bool). x && not y) (member-joined s t q) (member-single p q low high)
 
@@ -178,11 +173,11 @@ resolves s t r p op e = record { keeps = keeps; only = only }
     in_range = range (or_cases (member s.yes p && member t.no p) (member s.no p && member t.yes p) op)
 
     parts : (r.yes ≡ without (joined s.yes t.yes) (single p)) × (r.no ≡ without (joined s.no t.no) (single p))
-    parts = clear-parts (without (joined s.yes t.yes) (single p)) (without (joined s.no t.no) (single p)) r e
+    parts = clear_parts (without (joined s.yes t.yes) (single p)) (without (joined s.no t.no) (single p)) r e
 
     at : (z : ℤ) → names r z ≡ ((names s z || names t z) && not (point_of z == p))
-    at (pos q) = ap (λ (u : PointSet). member u q) parts.0 ∙ rest-member s.yes t.yes p q in_range.0 in_range.1
-    at (negsuc k) = ap (λ (u : PointSet). member u (suc k)) parts.1 ∙ rest-member s.no t.no p (suc k) in_range.0 in_range.1
+    at (pos q) = ap (λ (u : PointSet). member u q) parts.0 ∙ rest_member s.yes t.yes p q in_range.0 in_range.1
+    at (negsuc k) = ap (λ (u : PointSet). member u (suc k)) parts.1 ∙ rest_member s.no t.no p (suc k) in_range.0 in_range.1
 
     keeps : (z : ℤ) → (names s z || names t z) ≡ true → (point_of z ≢ p) → names r z ≡ true
     keeps z h ne = at z ∙ kept (names s z || names t z) (point_of z == p) h (ne_eqb (point_of z) p ne)
@@ -237,13 +232,13 @@ combined s t r p h = go (opposed s.literals t.literals p) refl
         some None = true
         some (Some d) = false
 
-pub combined-resolves : (s t r : Clause) (p : ℕ) → clause_core.combine s t p ≡ Some r → Resolves s.literals t.literals r.literals p
-combined-resolves s t r p h = let c = combined s t r p h in resolves s.literals t.literals r.literals p c.oppose c.gives
+pub combined_resolves : (s t r : Clause) (p : ℕ) → clause_core.combine s t p ≡ Some r → Resolves s.literals t.literals r.literals p
+combined_resolves s t r p h = let c = combined s t r p h in resolves s.literals t.literals r.literals p c.oppose c.gives
 
 -- what combine gives on an opposed point
-pub combine-opposed : (s t : Clause) (p : ℕ) → opposed s.literals t.literals p ≡ true
+pub combine_opposed : (s t : Clause) (p : ℕ) → opposed s.literals t.literals p ≡ true
     → (o : Option LiteralSet) → o ≡ resolvent s.literals t.literals p → option_map clause_of o ≡ clause_core.combine s t p
-combine-opposed s t p op o e =
+combine_opposed s t p op o e =
     ap (option_map clause_of) e ∙ sym (cond-true (opposed s.literals t.literals p) (option_map clause_of (resolvent s.literals t.literals p)) None op)
 
 combine_sound : (s t r : Clause) (p : ℕ) → clause_core.combine s t p ≡ Some r → (a : ℕ → Bool) → Fits s a → Fits t a → Fits r a
@@ -253,7 +248,7 @@ combine_sound s t r p h a fs ft = go (cases_eq (point_of fs.0) p) (cases_eq (poi
     c = combined s t r p h
 
     v : Resolves s.literals t.literals r.literals p
-    v = combined-resolves s t r p h
+    v = combined_resolves s t r p h
 
     go : (point_of fs.0 ≡ p) ⊎ (point_of fs.0 ≢ p) → (point_of ft.0 ≡ p) ⊎ (point_of ft.0 ≢ p) → Fits r a
     go (inr ne) _ = (fs.0, v.keeps fs.0 (or_left (names s.literals fs.0) (names t.literals fs.0) fs.1) ne, fs.2)
@@ -271,15 +266,15 @@ named_literal c p m = go p (or_cases (member c.literals.yes p) (member c.literal
     go zero (inr n) = absurd (let l : 1 ≤ 0 = member_positive c.literals.no 0 n in omega arith)
     go (suc k) (inr n) = (negsuc k, refl, n)
 
-combine-last : (s t r : Clause) (p : ℕ) → clause_core.combine s t p ≡ Some r → greatest (named r) ≤ max (greatest (named s)) (greatest (named t))
-combine-last s t r p h = greatest_below (named r) (max (greatest (named s)) (greatest (named t))) bound
+combine_last : (s t r : Clause) (p : ℕ) → clause_core.combine s t p ≡ Some r → greatest (named r) ≤ max (greatest (named s)) (greatest (named t))
+combine_last s t r p h = greatest_below (named r) (max (greatest (named s)) (greatest (named t))) bound
   where
     v : Resolves s.literals t.literals r.literals p
-    v = combined-resolves s t r p h
+    v = combined_resolves s t r p h
 
     side : (z : ℤ) → (names s.literals z ≡ true) ⊎ (names t.literals z ≡ true) → point_of z ≤ max (greatest (named s)) (greatest (named t))
-    side z (inl n) = let l = member-last (named s) (point_of z) (names-point s z n) in omega arith
-    side z (inr n) = let l = member-last (named t) (point_of z) (names-point t z n) in omega arith
+    side z (inl n) = let l = member-last (named s) (point_of z) (names_point s z n) in omega arith
+    side z (inr n) = let l = member-last (named t) (point_of z) (names_point t z n) in omega arith
 
     bound : (q : ℕ) → member (named r) q ≡ true → q ≤ max (greatest (named s)) (greatest (named t))
     bound q m =
@@ -293,5 +288,5 @@ clause_sound = record {
   impossible_yes = impossible_yes;
   impossible_no = impossible_no;
   combine_sound = combine_sound;
-  combine-last = combine-last;
+  combine_last = combine_last;
 }

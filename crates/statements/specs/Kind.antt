@@ -25,7 +25,7 @@ pub record Sound {S : Type 0} (K : Core S) (fits : S → (ℕ → Bool) → Type
   -- what combine gives is fitted by every assignment that fits both
   pub combine_sound : (s t r : S) (p : ℕ) → K.combine s t p ≡ Some r → (a : ℕ → Bool) → fits s a → fits t a → fits r a
   -- and its last is at most the greater of theirs
-  pub combine-last : (s t r : S) (p : ℕ) → K.combine s t p ≡ Some r → K.last r ≤ max (K.last s) (K.last t)
+  pub combine_last : (s t r : S) (p : ℕ) → K.combine s t p ≡ Some r → K.last r ≤ max (K.last s) (K.last t)
 
 -- the laws that settling rests on besides
 pub record Exact {S : Type 0} (K : Kind S) (fits : S → (ℕ → Bool) → Type 0) : Type 0 where

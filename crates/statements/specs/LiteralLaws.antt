@@ -45,9 +45,9 @@ clear_by_lem y n false e s h = absurd (true≢false (ap some h))
     some (Some t) = false
 
 -- a set that it gives has just these points
-pub clear-parts : (y n : PointSet) (s : LiteralSet) → clear y n ≡ Some s → (s.yes ≡ y) × (s.no ≡ n)
+pub clear_parts : (y n : PointSet) (s : LiteralSet) → clear y n ≡ Some s → (s.yes ≡ y) × (s.no ≡ n)
 unfolding clear
-clear-parts y n s h = clear_by_lem y n (is_empty (common y n)) refl s h
+clear_parts y n s h = clear_by_lem y n (is_empty (common y n)) refl s h
 
 some_by : (s : LiteralSet) (b : Bool) (e : is_empty (common s.yes s.no) ≡ b) → clear_by s.yes s.no b e ≡ Some s
 unfolding clear_by
@@ -55,9 +55,9 @@ some_by s true e = ap Some (same_literals (record { yes = s.yes; no = s.no; apar
 some_by s false e = absurd (true≢false (sym s.apart ∙ e))
 
 -- it gives a set at the points of a set
-pub clear-some : (s : LiteralSet) → clear s.yes s.no ≡ Some s
+pub clear_some : (s : LiteralSet) → clear s.yes s.no ≡ Some s
 unfolding clear
-clear-some s = some_by s (is_empty (common s.yes s.no)) refl
+clear_some s = some_by s (is_empty (common s.yes s.no)) refl
 
 none_by : (y n : PointSet) (b : Bool) (e : is_empty (common y n) ≡ b) → is_empty (common y n) ≡ false → clear_by y n b e ≡ None
 unfolding clear_by

@@ -12,7 +12,7 @@ use Rattle.dimacs.specs.declared.fault.Cause.{Cause}
 use Rattle.dimacs.specs.declared.fault.Cause.TheVariants.{Long, Header as BadHeader, Open}
 use Rattle.dimacs.proofs.AcceptLaws.{judged}
 use Rattle.dimacs.proofs.PlainLaws.{reads_back, example}
-use Rattle.dimacs.proofs.ReadLaws.{reading_long, reading_comments, reading_bad, reading-points, reading-body}
+use Rattle.dimacs.proofs.ReadLaws.{reading_long, reading_comments, reading_bad, reading_points, reading_body}
 use Rattle.dimacs.proofs.reader.read.Goals as goal
 
 -- a refusal that files nothing
@@ -52,7 +52,7 @@ returns-in-Ok c =
     let e : body case.points d.clauses (length table) (length text) (tokens_from end (drop end text)) begun ≡ reading (length table) text =
     ap (λ (n : ℕ). body n d.clauses (length table) (length text) (tokens_from end (drop end text)) begun) points
     ∙ sym
-    (reading-body (length table) text (ltb-false 16384 (length c.args.text.now) (sym c.is_too_long.ensures ∙ c.if-is_too_long.false)) start end c.in-Some.ensures d (sym c.in-Some-parse.ensures.value)
+    (reading_body (length table) text (ltb-false 16384 (length c.args.text.now) (sym c.is_too_long.ensures ∙ c.if-is_too_long.false)) start end c.in-Some.ensures d (sym c.in-Some-parse.ensures.value)
     (omega (arith, points, case.some)) (omega (arith, points, case.few))) in
     let answer = subst (λ (x : Reading). Answers x c.read_body.result) e c.read_body.ensures.answer in
     let rows = c.read_body.ensures.rows ∙ ap (λ (x : Reading). over x.clauses table) e in
@@ -70,7 +70,7 @@ returns-in-Err c =
     let start = c.in-Some.field-0.start in
     let why = refused-points c.in-Err.fault d.points c.in-Err.ensures in
     let e =
-    reading-points (length c.args.table.now) c.args.text.now (ltb-false 16384 (length c.args.text.now) (sym c.is_too_long.ensures ∙ c.if-is_too_long.false)) start c.in-Some.field-0.end c.in-Some.ensures d
+    reading_points (length c.args.table.now) c.args.text.now (ltb-false 16384 (length c.args.text.now) (sym c.is_too_long.ensures ∙ c.if-is_too_long.false)) start c.in-Some.field-0.end c.in-Some.ensures d
     (sym c.in-Some-parse.ensures.value) why.1 in
     let reads =
     refusal c.args.text.now c.args.table.now c.into.result (start + d.points_at)

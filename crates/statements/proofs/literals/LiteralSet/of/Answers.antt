@@ -1,10 +1,10 @@
 use Rattle.std.proofs.Common.{◌≡◌, false, sym, ap, ◌∙◌}
 use Rattle.points.specs.Sets.{common, is_empty}
-use Rattle.statements.specs.LiteralLaws.{clear-some, clear_none}
+use Rattle.statements.specs.LiteralLaws.{clear_some, clear_none}
 use Rattle.statements.proofs.literals.LiteralSet.of.Goals as goal
 
 pub returns-then-is_empty : goal.returns-then-is_empty
-returns-then-is_empty c = sym (clear-some (record { yes = c.args.yes; no = c.args.no; apart = _ }))
+returns-then-is_empty c = sym (clear_some (record { yes = c.args.yes; no = c.args.no; apart = _ }))
 
 pub returns-else-is_empty : goal.returns-else-is_empty
 returns-else-is_empty c =

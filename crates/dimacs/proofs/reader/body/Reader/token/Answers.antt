@@ -3,7 +3,7 @@ use mir.ValLaws.{to_z-of_z}
 use Rattle.dimacs.specs.Reading.{token, end_token}
 use Rattle.dimacs.specs.Steps.{progress, Adds}
 use Rattle.dimacs.specs.declared.fault.Cause.TheVariants.{Token, Count}
-use Rattle.dimacs.proofs.StepLaws.{token-over, token_stray, token_end, token_literal, filed_count, added_step, same_step, refused_step}
+use Rattle.dimacs.proofs.StepLaws.{token_over, token_stray, token_end, token_literal, filed_count, added_step, same_step, refused_step}
 use Rattle.dimacs.proofs.reader.body.Reader.token.Goals as goal
 
 pub returns-then-filed-self : goal.returns-then-filed-self
@@ -13,7 +13,7 @@ returns-then-filed-self c =
     let st = progress r table in
     let over : r.announced ≤ length st.filed = omega (arith, filed_count r table c.requires, c.filed.ensures, c.if-filed-self.true) in
     refused_step (λ st. token r.case.points r.announced (length table) st c.args.bytes.now) (Unit {0}) r table Count
-    (token-over r.case.points r.announced (length table) st c.args.bytes.now over)
+    (token_over r.case.points r.announced (length table) st c.args.bytes.now over)
 
 pub returns-in_default : goal.returns-in_default
 returns-in_default c =

@@ -7,7 +7,7 @@ use lib.Bits.{bit_and}
 use lib.Pow.{pow-lt}
 use Rattle.std.proofs.lemmas.Bool.{eqb-true, eq-eqb, ne_eqb, cases_eq, cases_lt, both_ways, and_left, and_right, true≢false}
 use Rattle.std.proofs.lemmas.Bool.Decides.{nat_tests}
-use Rattle.points.specs.Sets.{has, member, none, single, joined, common, without, is_empty, subset}
+use Rattle.points.specs.Sets.{has, member, none, single, joined, common, without, is_empty, subset, same_set}
 use Rattle.points.specs.declared.set.PointSet.{PointSet}
 use Rattle.points.proofs.Digits.{digit, digit_small, or_digit, and_digit, digit_beyond, digit_opposite, same_digits, digit_power, digit_power_other}
 
@@ -120,6 +120,16 @@ unfolding is_empty none
 empty_decides s = (
   λ e p. ap (λ (t : PointSet). member t p) (same_word s none (eqb-true s.bits 0 e)) ∙ member-none p,
   λ h. eq-eqb s.bits 0 (ap (λ (t : PointSet). t.bits) (same_members s none (λ p. h p ∙ sym (member-none p)))),
+)
+
+pub same_set_decides : (a b : PointSet) → Decides (same_set a b) (a ≡ b)
+unfolding same_set
+same_set_decides a b = (λ e. same_word a b (eqb-true a.bits b.bits e), λ e. eq-eqb a.bits b.bits (ap (λ (s : PointSet). s.bits) e))
+
+pub same_set_members : (a b : PointSet) → Decides (same_set a b) ((p : ℕ) → member a p ≡ member b p)
+same_set_members a b = (
+  λ e p. ap (λ (s : PointSet). member s p) ((same_set_decides a b).0 e),
+  λ h. (same_set_decides a b).1 (same_members a b h),
 )
 
 -- two sets, each without the members of the other, have nothing in common

@@ -1,8 +1,6 @@
 // What a set answers.
-ghost use Rattle.std.specs.Prelude.{◌≡◌, ℕ, ◌≤◌, ◌==◌, true, false, Decides};
-ghost use Rattle.points.specs.Sets.{member, counted, last_of, is_empty, subset, size, greatest};
-ghost use Rattle.std.specs.Cmp.{on_per, partial_equiv_from_equiv, nat_eq_equiv};
-ghost use Rattle.points.specs.declared.set.PointSet as declared;
+ghost use Rattle.std.specs.Prelude.{◌≡◌, ℕ, ◌≤◌, true, false, Decides};
+ghost use Rattle.points.specs.Sets.{member, counted, last_of, is_empty, subset, size, greatest, same_set, same_set_per};
 
 use super::PointSet;
 use crate::point::Point;
@@ -52,12 +50,12 @@ impl PointSet {
 
 // Two sets are equal where they have the same members.
 impl PartialEq for PointSet {
-    ghost eq = { λ a b. a.bits == b.bits };
+    ghost eq = { same_set };
 
-    ghost laws = { on_per (λ (s : declared.PointSet). s.bits) (partial_equiv_from_equiv nat_eq_equiv) };
+    ghost laws = { same_set_per };
 
     fn eq(&self, other: &PointSet) -> bool
-        ensures bits { result ≡ (self.now.bits == other.now.bits) }
+        ensures value { result ≡ same_set self.now other.now }
         ensures same { Decides result (self.now ≡ other.now) }
         ensures members { Decides result ((p : ℕ) → member self.now p ≡ member other.now p) }
     {

@@ -1,5 +1,5 @@
 // The points of a set of literals.
-ghost use Rattle.std.specs.Prelude.{◌≡◌, ℕ};
+ghost use Rattle.std.specs.Prelude.{◌≡◌, ◌||◌, ℕ};
 ghost use Rattle.points.specs.Assignments.{says};
 ghost use Rattle.points.specs.Sets.{member};
 ghost use Rattle.statements.specs.Literals.{named, true_at};
@@ -10,7 +10,8 @@ use points::{Assignment, PointSet};
 impl LiteralSet {
     // The points that the set names, either way: one for each literal.
     pub fn named(self) -> PointSet
-        ensures { result ≡ named self }
+        ensures value { result ≡ named self }
+        ensures members { (p : ℕ) → member result p ≡ (member self.yes p || member self.no p) }
     {
         self.yes.union(self.no)
     }

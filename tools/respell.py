@@ -26,6 +26,14 @@ GIVEN = {
     "true-at": "true_at_lem",
 }
 
+# names in which a part that is a definition's name too is a plain word
+PLAIN = """
+at-token bare-last clear-parts clear-some combine-last combine-opposed combined-resolves counted-within decimal-number
+decimal-solid decimal-some decimal-written first-clause first-line first-token made-names made-refused names-point
+none-filed none-joined none-noted plain-denotes point-size reading-body reading-line reading-points rest-member
+run-some some-member token-number token-over tokens-placed tokens-words words-none writes-none
+""".split()
+
 
 def files(pattern):
     return sorted(glob.glob(pattern, recursive=True))
@@ -62,7 +70,7 @@ def respelled(name, definitions):
     parts = [snake(p) for p in name.split("-")]
     if any(p[:1].isupper() for p in parts):
         return name
-    for cut in range(1, len(parts)):
+    for cut in range(1, len(parts)) if name not in PLAIN else ():
         if "_".join(parts[:cut]) in definitions and "_".join(parts[cut:]) in definitions:
             return "_".join(parts[:cut]) + "-" + "_".join(parts[cut:])
     return "_".join(parts)

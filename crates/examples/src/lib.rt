@@ -6,4 +6,6 @@ mod clauses;
 #[cfg(test)]
 mod filing;
 #[cfg(test)]
+mod literals;
+#[cfg(test)]
 mod reader;

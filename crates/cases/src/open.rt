@@ -3,7 +3,9 @@ mod counts;
 
 ghost use Rattle.std.specs.Prelude.{◌≤◌};
 
-// An open case: how many points it has, how many statements are filed, and how many were when a supposition began.
+// An open case: how many points it has, how many statements are filed, and how many were when a supposition began. The statements
+// stand in a table that is lent at each call, and not in a `Vec` here: no call on a case allocates. The number of points is held, and
+// not the last `Point`, of which each clause would have to ask the number.
 #[derive(Drop)]
 pub struct OpenCase {
     points: u32,

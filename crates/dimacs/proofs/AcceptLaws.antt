@@ -1,18 +1,16 @@
 -- A text that denotes clauses within the limits is accepted, with these clauses. Assumes nothing.
-use Rattle.std.proofs.Common.{◌≡◌, ℕ, zero, suc, ◌+◌, ◌<◌, ◌≤◌, Bool, true, false, ◌&&◌, ◌||◌, eqb, ltb, leb, List, [], ◌∷◌, ◌++◌, length, take, drop, ℤ, pos, negsuc, neg_ℤ, nat_abs, is_some, Some, None, Ok, Err, Option, Result, sym, refl, ap, ◌∙◌, subst, ap₂, append_assoc, append-nil, le_refl, arith, length-append, take_all}
-use lib.Seq.{take-append-le}
+use Rattle.std.proofs.Common.{◌≡◌, ℕ, zero, suc, ◌+◌, ◌<◌, ◌≤◌, Bool, true, ◌||◌, leb, List, [], ◌∷◌, ◌++◌, length, take, ℤ, pos, negsuc, neg_ℤ, nat_abs, Some, None, Ok, Err, Option, Result, sym, refl, ap, ◌∙◌, subst, ap₂, append_assoc, append-nil, arith, length-append}
+use mathlib.Core.Bool.{or_assoc}
+use Rattle.std.proofs.lemmas.List.{take_at}
 use Rattle.std.proofs.lemmas.Bool.{cond-true, and_from, and_parts, or_left, or_right, le-leb, lt-ltb, eq-eqb, true≢false}
 use Rattle.cases.specs.Refusals.{usable}
-use Rattle.cases.specs.declared.fault.FileFault.TheVariants.{Full}
-use Rattle.cases.specs.declared.fault.OpenFault.TheVariants.{Points}
 use Rattle.cases.specs.declared.open.OpenCase.{OpenCase}
-use Rattle.lexer.specs.Headers.{headed}
 use Rattle.lexer.specs.Numerals.{number_of}
-use Rattle.lexer.specs.Text.{Piece, lines_from, tokens}
+use Rattle.lexer.specs.Text.{Piece, tokens}
 use Rattle.points.specs.Sets.{greatest}
 use Rattle.points.proofs.Sizes.{member-last}
-use Rattle.statements.specs.Clauses.{clause_of, named}
-use Rattle.statements.specs.Literals.{bare, names, same_number, listed, point_of}
+use Rattle.statements.specs.Clauses.{clause_of}
+use Rattle.statements.specs.Literals.{named, bare, names, same_number, listed, point_of}
 use Rattle.statements.specs.Making.{is_literal, are_literals, made, extended}
 use Rattle.statements.specs.declared.clause.Clause.{Clause}
 use Rattle.statements.specs.declared.fault.MakeFault.{MakeFault}
@@ -21,11 +19,10 @@ use Rattle.statements.specs.ClauseLaws.{names_point}
 use Rattle.statements.specs.LiteralLaws.{never_both}
 use Rattle.statements.proofs.MakeLaws.{Made, Extended, made_law, extended_law, made_none, made_push, made_of_numbers, literals_append}
 use Rattle.dimacs.specs.Denoting.{and_then, numbers_of, Spells, nothing, clause, OnPoints, Case, Judged}
-use Rattle.dimacs.specs.Reading.{Progress, Reading, accepted, refused, begun, go_on, with_pending, body, from_line, from_header, reading, over}
+use Rattle.dimacs.specs.Reading.{Progress, accepted, go_on, with_pending, body, from_line, from_header, reading, over}
 use Rattle.dimacs.specs.Steps.{Answers}
-use Rattle.dimacs.specs.declared.fault.Cause.TheVariants.{Long, Count, Open, File}
 use Rattle.dimacs.specs.declared.fault.Fault.{Fault}
-use Rattle.dimacs.proofs.DenoteLaws.{accepted_case, not_ok}
+use Rattle.dimacs.proofs.DenoteLaws.{accepted_case}
 use Rattle.dimacs.proofs.StepLaws.{added, point_size, token_end, token_literal}
 
 -- ---- the numbers of a group
@@ -37,11 +34,7 @@ made_names zs s h = subst (Made zs) h (made_law zs)
 pub listed-append : (xs ys : List ℤ) (z : ℤ) → listed (xs ++ ys) z ≡ (listed xs z || listed ys z)
 unfolding listed
 listed-append [] ys z = refl
-listed-append (x ∷ xs) ys z = ap (λ (t : Bool). same_number z x || t) (listed-append xs ys z) ∙ or_assoc (same_number z x) (listed xs z) (listed ys z)
-  where
-    or_assoc : (x y z : Bool) → (x || (y || z)) ≡ ((x || y) || z)
-    or_assoc true y z = refl
-    or_assoc false y z = refl
+listed-append (x ∷ xs) ys z = ap (λ (t : Bool). same_number z x || t) (listed-append xs ys z) ∙ sym (or_assoc (same_number z x) (listed xs z) (listed ys z))
 
 same_self : (z : ℤ) → same_number z z ≡ true
 same_self (pos n) = eq-eqb n n refl
@@ -68,8 +61,8 @@ module _ (xs : List ℤ) (y : ℤ) (ys : List ℤ) (s target : LiteralSet) (befo
       ∙ listed-append xs (y ∷ ys) y
       ∙ or_right (listed xs y) (listed (y ∷ ys) y) (or_left (same_number y y) (listed ys y) (same_self y))
 
-  inner_known : (n : ℕ) → greatest (named (clause_of target)) ≤ n → nat_abs y ≤ n
-  inner_known n h = omega (arith, h, member-last (named (clause_of target)) (point_of y) (names_point (clause_of target) y inner_named), point_size y)
+  inner_known : (n : ℕ) → greatest (named target) ≤ n → nat_abs y ≤ n
+  inner_known n h = omega (arith, h, member-last (named target) (point_of y) (names_point (clause_of target) y inner_named), point_size y)
 
   inner_extended : (t : LiteralSet) × (extended s y ≡ Ok t)
   inner_extended = go (extended s y) refl
@@ -87,17 +80,9 @@ module _ (xs : List ℤ) (y : ℤ) (ys : List ℤ) (s target : LiteralSet) (befo
 
 -- ---- the numbers of tokens
 
-some_cons : (z : ℤ) (zs : List ℤ) → Some [] ≡ Some (z ∷ zs) → ⊥
-some_cons z zs h = true≢false (ap none h)
-  where
-    none : Option (List ℤ) → Bool
-    none None = true
-    none (Some []) = true
-    none (Some (x ∷ xs)) = false
-
 and_then_lem : (o : Option ℤ) (p : Option (List ℤ)) (z : ℤ) (zs : List ℤ) → and_then o p ≡ Some (z ∷ zs) → (o ≡ Some z) × (p ≡ Some zs)
-and_then_lem None p z zs h = absurd (true≢false (sym (ap is_some h)))
-and_then_lem (Some x) None z zs h = absurd (true≢false (sym (ap is_some h)))
+and_then_lem None p z zs h = cc
+and_then_lem (Some x) None z zs h = cc
 and_then_lem (Some x) (Some xs) z zs h = (cc, cc)
 
 no_tokens : (ts : List Piece) → numbers_of ts ≡ Some [] → ts ≡ []
@@ -106,9 +91,9 @@ no_tokens [] h = refl
 no_tokens (t ∷ ts) h = absurd (never (number_of t.1) (numbers_of ts) h)
   where
     never : (o : Option ℤ) (p : Option (List ℤ)) → and_then o p ≡ Some [] → ⊥
-    never None p e = true≢false (sym (ap is_some e))
-    never (Some x) None e = true≢false (sym (ap is_some e))
-    never (Some x) (Some xs) e = some_cons x xs (sym e)
+    never None p e = cc
+    never (Some x) None e = cc
+    never (Some x) (Some xs) e = cc
 
 -- ---- the tokens after the header
 
@@ -124,7 +109,7 @@ module _ (n announced rows end : ℕ) (room : announced ≤ usable rows) where
   unfolding body
   runs_nothing ts e known filed count =
       ap (λ (x : List Piece). body n announced rows end x (record { filed = filed; pending = bare })) (no_tokens ts e)
-      ∙ cond-true (eqb (length filed) announced) (accepted filed n) (refused filed Count end) (eq-eqb (length filed) announced (omega arith))
+      ∙ cond-true _ _ _ (eq-eqb (length filed) announced (omega arith))
       ∙ ap (λ (x : List Clause). accepted x n) (sym (append-nil filed))
 
   module _ (c : Clause) (cs : List Clause) (rest : List ℤ) (later : Runs rest cs) (known : OnPoints n (c ∷ cs)) (filed : List Clause)
@@ -139,18 +124,18 @@ module _ (n announced rows end : ℕ) (room : announced ≤ usable rows) where
     group ys xs s before all [] e = absurd (empty ys e)
       where
         empty : (ys : List ℤ) → Some [] ≡ Some (ys ++ pos 0 ∷ rest) → ⊥
-        empty [] h = some_cons (pos 0) rest h
-        empty (y ∷ ys) h = some_cons y (ys ++ pos 0 ∷ rest) h
+        empty [] h = cc
+        empty (y ∷ ys) h = cc
     group [] xs s before all (t ∷ ts) e =
         let parts = and_then_lem (number_of t.1) (numbers_of ts) (pos 0) rest e in
         let st : Progress = record { filed = filed; pending = s } in
-        let is : clause_of s ≡ c = ap clause_of (ok_same (sym before ∙ sym (ap made (append-nil xs)) ∙ all)) in
+        let is : s ≡ c.literals = ok_same (sym before ∙ sym (ap made (append-nil xs)) ∙ all) in
         ap (go_on n announced rows end (body n announced rows end ts) filed t.0)
         (token_end n announced rows st t.1 under parts.0
-        ∙ cond-true (ltb (length filed) (usable rows)) (Ok (record { filed = filed ++ clause_of s ∷ []; pending = bare })) (Err (File Full))
+        ∙ cond-true _ _ _
         (lt-ltb (length filed) (usable rows) (omega (arith, under))))
         ∙ later ts parts.1 known.1 (filed ++ clause_of s ∷ []) (omega (arith, length-append filed (clause_of s ∷ [])))
-        ∙ ap (λ (x : List Clause). accepted x n) (append_assoc filed (clause_of s ∷ []) cs ∙ ap (λ (d : Clause). filed ++ d ∷ cs) is)
+        ∙ ap (λ (x : List Clause). accepted x n) (append_assoc filed (clause_of s ∷ []) cs ∙ ap (λ (s : LiteralSet). filed ++ clause_of s ∷ cs) is)
     group (y ∷ ys) xs s before all (t ∷ ts) e =
         let parts = and_then_lem (number_of t.1) (numbers_of ts) y (ys ++ pos 0 ∷ rest) e in
         let st : Progress = record { filed = filed; pending = s } in
@@ -173,21 +158,18 @@ unfolding reading
 case_accepted rows text n cs k =
     let d = k.denotes in
     let start = d.line.0 in
-    cond-true (leb (length text) 16384) (from_line rows (length text) (headed (lines_from 0 text))) (refused [] Long 16384) (le-leb (length text) 16384 k.short)
+    cond-true _ _ _ (le-leb (length text) 16384 k.short)
     ∙ ap (from_line rows (length text)) d.first
     ∙ ap (from_header rows (length text) start d.after) d.announces
-    ∙ cond-true (leb 1 n && leb n 64) (body n (length cs) rows (length text) (tokens d.after) begun) (refused [] (Open Points) (start + d.at))
+    ∙ cond-true _ _ _
     (and_from (leb 1 n) (leb n 64) (le-leb 1 n k.some) (le-leb n 64 k.few))
     ∙ runs n (length cs) rows (length text) k.room d.spells (tokens d.after) d.writes d.known [] (omega arith)
 
 -- ---- what the answer says of the text
 
-take_front : (cs table : List Clause) → take (length cs) (over cs table) ≡ cs
-take_front cs table = take-append-le (length cs) cs (drop (length cs) table) (le_refl (length cs)) ∙ take_all (length cs) cs (le_refl (length cs))
-
 pub judged : (rows : ℕ) (text : List ℕ) (table after : List Clause) (r : Result OpenCase Fault) → Answers (reading rows text) r
     → after ≡ over (reading rows text).clauses table → Judged rows text after r
 judged rows text table after (Ok c) (e, count, note) is =
-    subst (Case rows text c.points) (sym (ap₂ (λ (n : ℕ) (t : List Clause). take n t) count is ∙ take_front (reading rows text).clauses table))
+    subst (Case rows text c.points) (sym (ap₂ (λ (n : ℕ) (t : List Clause). take n t) count is ∙ take_at (reading rows text).clauses _ _ refl))
     (accepted_case rows text c.points e)
-judged rows text table after (Err f) e is = λ n cs k. not_ok (sym e ∙ ap (λ (x : Reading). x.answer) (case_accepted rows text n cs k))
+judged rows text table after (Err f) e is = λ n cs k. cc (case_accepted rows text n cs k)

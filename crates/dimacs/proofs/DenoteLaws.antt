@@ -1,33 +1,27 @@
 -- An accepted text denotes the clauses that are filed. Assumes nothing.
-use Rattle.std.proofs.Common.{◌≡◌, ℕ, ◌+◌, ◌<◌, ◌≤◌, true, false, cond, ◌&&◌, ◌||◌, eqb, leb, ◌⊎◌, List, [], ◌∷◌, ◌++◌, length, ℤ, pos, is_ok, Some, None, Ok, Err, Option, Result, sym, refl, ap, ◌∙◌, subst, ap₂, inl, inr, append_assoc, append-nil, arith, length-append}
-use Rattle.std.proofs.lemmas.Bool.{cases_Bool, cond-true, cond-false, and_parts, leb-true, eqb-true, true≢false}
+use Rattle.std.proofs.Common.{◌≡◌, ℕ, ◌<◌, ◌≤◌, true, ◌&&◌, ◌||◌, eqb, leb, ◌⊎◌, List, [], ◌∷◌, ◌++◌, length, ℤ, pos, Some, None, Ok, Option, Result, sym, refl, ◌∙◌, subst, ap₂, inl, inr, append_assoc, append-nil, arith, length-append}
+use Rattle.std.proofs.lemmas.Bool.{cond_both, and_parts, leb-true, eqb-true}
 use Rattle.cases.specs.Refusals.{usable}
-use Rattle.cases.specs.declared.fault.OpenFault.TheVariants.{Points}
 use Rattle.lexer.specs.Headers.{headed, header_of}
 use Rattle.lexer.specs.Text.{Piece, lines_from, tokens}
 use Rattle.lexer.specs.declared.headers.Header.{Header}
 use Rattle.points.specs.Sets.{greatest}
-use Rattle.statements.specs.Clauses.{clause_of, named}
-use Rattle.statements.specs.Literals.{bare, names, same_number}
+use Rattle.statements.specs.Clauses.{clause_of}
+use Rattle.statements.specs.Literals.{named, bare, names, same_number}
 use Rattle.statements.specs.Making.{made}
 use Rattle.statements.specs.declared.clause.Clause.{Clause}
 use Rattle.statements.proofs.MakeLaws.{Extended, extended_law, made_none, made_push}
 use Rattle.dimacs.specs.Denoting.{and_then, numbers_of, Spells, nothing, clause, OnPoints, Case}
-use Rattle.dimacs.specs.Reading.{Progress, Reading, accepted, refused, begun, at_end, go_on, body, from_header, from_line, reading}
+use Rattle.dimacs.specs.Reading.{Progress, Reading, begun, at_end, go_on, body, from_header, from_line, reading}
 use Rattle.dimacs.specs.declared.fault.Cause.{Cause}
-use Rattle.dimacs.specs.declared.fault.Cause.TheVariants.{Long, Count, Open}
-use Rattle.dimacs.specs.declared.fault.Fault.{Fault}
 use Rattle.dimacs.proofs.StepLaws.{added_last, bare_last}
 use Rattle.dimacs.proofs.TokenViews.{View, literal, finish, stop, token_view}
-
-pub not_ok : {X E : Type 0} {e : E} {x : X} → Err e ≡ Ok x → ⊥
-not_ok {X} {E} h = true≢false (sym (ap (is_ok {T = X} {E = E}) h))
 
 module _ (n announced rows end : ℕ) where
   -- the numbers zs of the clause that is not finished
   pub record Part (st : Progress) (zs : List ℤ) : Type 0 where
     pub group : made zs ≡ Ok st.pending
-    pub known : greatest (named (clause_of st.pending)) ≤ n
+    pub known : greatest (named st.pending) ≤ n
     pub unfinished : (zs ≡ []) ⊎ (length st.filed < announced)
     pub room : length st.filed ≤ usable rows
 
@@ -47,14 +41,13 @@ module _ (n announced rows end : ℕ) where
   Reads ts = (st : Progress) (zs : List ℤ) → Part st zs → (m : ℕ) → (body n announced rows end ts st).answer ≡ Ok m → Rest ts st zs m (body n announced rows end ts st)
 
   -- at the end of the text
-  at_end_lem : (st : Progress) (zs : List ℤ) → Part st zs → (m : ℕ) → (eqb (length st.filed) announced ≡ true) ⊎ (eqb (length st.filed) announced ≡ false)
-      → (at_end n announced rows end st).answer ≡ Ok m → Rest [] st zs m (at_end n announced rows end st)
+  at_end_lem : (st : Progress) (zs : List ℤ) → Part st zs → (m : ℕ) → (at_end n announced rows end st).answer ≡ Ok m → Rest [] st zs m (at_end n announced rows end st)
   unfolding numbers_of
-  at_end_lem st zs p m (inl t) h =
-      let all = cond-true (eqb (length st.filed) announced) (accepted st.filed n) (refused st.filed Count end) t in
+  at_end_lem st zs p m =
+      cond_both (eqb (length st.filed) announced) _ _ (λ (out : Reading). out.answer ≡ Ok m → Rest [] st zs m out)
+      (λ t h.
       let full = eqb-true (length st.filed) announced t in
-      subst (Rest [] st zs m) (sym all)
-      (record {
+      record {
         numbers = [];
         cs = [];
         writes = refl;
@@ -62,18 +55,14 @@ module _ (n announced rows end : ℕ) where
         known = tt;
         clauses = sym (append-nil st.filed);
         count = full;
-        points = ok_same (sym (ap (λ (x : Reading). x.answer) all) ∙ h);
+        points = cc;
         room = p.room;
       })
+      (λ f h. cc)
     where
       whole : (zs ≡ []) ⊎ (length st.filed < announced) → length st.filed ≡ announced → zs ≡ []
       whole (inl e) f = e
-      whole (inr l) f = absurd (let x : length st.filed < length st.filed = omega arith in omega arith)
-
-      ok_same : ◌≡◌ {A = Result ℕ Fault} (Ok n) (Ok m) → m ≡ n
-      ok_same e = cc
-  at_end_lem st zs p m (inr f) h =
-      absurd (not_ok (sym (ap (λ (x : Reading). x.answer) (cond-false (eqb (length st.filed) announced) (accepted st.filed n) (refused st.filed Count end) f)) ∙ h))
+      whole (inr l) f = absurd (omega arith)
 
   -- at a token
   at_token : (t : Piece) (ts : List Piece) → Reads ts → (st : Progress) (zs : List ℤ) → Part st zs → (m : ℕ) → {r : Result Progress Cause} → View n announced rows st t.1 r
@@ -122,28 +111,24 @@ module _ (n announced rows end : ℕ) where
         points = r.points;
         room = r.room;
       }
-  at_token t ts on st zs p m (stop e) h = absurd (not_ok h)
+  at_token t ts on st zs p m (stop e) h = cc
 
   reads : (ts : List Piece) → Reads ts
   unfolding body
-  reads [] st zs p m h = at_end_lem st zs p m (cases_Bool (eqb (length st.filed) announced)) h
+  reads [] st zs p m h = at_end_lem st zs p m h
   reads (t ∷ ts) st zs p m h = at_token t ts (reads ts) st zs p m (token_view n announced rows st t.1) h
 
 -- ---- the whole text
 
 module _ (rows : ℕ) (text : List ℕ) (m : ℕ) where
+  abbrev Takes : Reading → Type 0
+  Takes x = x.answer ≡ Ok m → Case rows text m x.clauses
+
   from_header_lem : (line : Piece) (after : List Piece) → length text ≤ 16384 → headed (lines_from 0 text) ≡ Some (line, after)
-      → (o : Option Header) → header_of line.1 ≡ o → (from_header rows (length text) line.0 after o).answer ≡ Ok m
-      → Case rows text m (from_header rows (length text) line.0 after o).clauses
-  from_header_lem line after short first None e h = absurd (not_ok h)
-  from_header_lem line after short first (Some d) e h = go (cases_Bool (leb 1 d.points && leb d.points 64))
+      → (o : Option Header) → header_of line.1 ≡ o → Takes (from_header rows (length text) line.0 after o)
+  from_header_lem line after short first None e = λ h. cc
+  from_header_lem line after short first (Some d) e = cond_both (leb 1 d.points && leb d.points 64) _ _ Takes accept (λ f h. cc)
     where
-      all : Reading
-      all = body d.points d.clauses rows (length text) (tokens after) begun
-
-      bad : Reading
-      bad = refused [] (Open Points) (line.0 + d.points_at)
-
       accept : (leb 1 d.points && leb d.points 64) ≡ true → (body d.points d.clauses rows (length text) (tokens after) begun).answer ≡ Ok m
           → Case rows text m (body d.points d.clauses rows (length text) (tokens after) begun).clauses
       accept t k =
@@ -170,29 +155,12 @@ module _ (rows : ℕ) (text : List ℕ) (m : ℕ) where
             };
           }
 
-      go : ((leb 1 d.points && leb d.points 64) ≡ true) ⊎ ((leb 1 d.points && leb d.points 64) ≡ false)
-          → Case rows text m (from_header rows (length text) line.0 after (Some d)).clauses
-      go (inl t) =
-          let is = cond-true (leb 1 d.points && leb d.points 64) all bad t in
-          subst (λ (x : Reading). Case rows text m x.clauses) (sym is) (accept t (sym (ap (λ (x : Reading). x.answer) is) ∙ h))
-      go (inr f) = absurd (not_ok (sym (ap (λ (x : Reading). x.answer) (cond-false (leb 1 d.points && leb d.points 64) all bad f)) ∙ h))
-
-  from_line_lem : length text ≤ 16384 → (o : Option (Piece × List Piece)) → headed (lines_from 0 text) ≡ o → (from_line rows (length text) o).answer ≡ Ok m
-      → Case rows text m (from_line rows (length text) o).clauses
-  from_line_lem short None e h = absurd (not_ok h)
-  from_line_lem short (Some (line, after)) e h = from_header_lem line after short e (header_of line.1) refl h
+  from_line_lem : length text ≤ 16384 → (o : Option (Piece × List Piece)) → headed (lines_from 0 text) ≡ o → Takes (from_line rows (length text) o)
+  from_line_lem short None e = λ h. cc
+  from_line_lem short (Some (line, after)) e = from_header_lem line after short e (header_of line.1) refl
 
   -- an accepted text is a case, and denotes the clauses that it files
   pub accepted_case : (reading rows text).answer ≡ Ok m → Case rows text m (reading rows text).clauses
   unfolding reading
-  accepted_case h = go (cases_Bool (leb (length text) 16384))
-    where
-      good : Reading
-      good = from_line rows (length text) (headed (lines_from 0 text))
-
-      go : (leb (length text) 16384 ≡ true) ⊎ (leb (length text) 16384 ≡ false) → Case rows text m (cond (leb (length text) 16384) good (refused [] Long 16384)).clauses
-      go (inl t) =
-          let is = cond-true (leb (length text) 16384) good (refused [] Long 16384) t in
-          subst (λ (x : Reading). Case rows text m x.clauses) (sym is)
-          (from_line_lem (leb-true (length text) 16384 t) (headed (lines_from 0 text)) refl (sym (ap (λ (x : Reading). x.answer) is) ∙ h))
-      go (inr f) = absurd (not_ok (sym (ap (λ (x : Reading). x.answer) (cond-false (leb (length text) 16384) good (refused [] Long 16384) f)) ∙ h))
+  accepted_case =
+      cond_both (leb (length text) 16384) _ _ Takes (λ t. from_line_lem (leb-true (length text) 16384 t) (headed (lines_from 0 text)) refl) (λ f h. cc)

@@ -1,5 +1,6 @@
 pub mod AcceptLaws
 pub mod DenoteLaws
+mod Handed
 pub mod PlainClauses
 pub mod PlainLaws
 pub mod PlainNumbers

@@ -1,13 +1,13 @@
 -- The line of a clause writes its literals by point, and the clause is made of them. Assumes nothing.
-use Rattle.std.proofs.Common.{◌≡◌, ℕ, zero, suc, ◌≤◌, Bool, true, false, cond, ◌&&◌, ◌||◌, eqb, leb, ◌⊎◌, List, [], ◌∷◌, ◌++◌, ℤ, pos, negsuc, nat_abs, Ok, Err, Result, sym, refl, ap, ◌∙◌, subst, ap₂, inl, inr, append_assoc, arith}
-use Rattle.std.proofs.lemmas.Bool.{and_from, and_left, and_right, le-leb, lt-leb, ne_eqb, cases_eq, both_ways}
+use Rattle.std.proofs.Common.{◌≡◌, ℕ, zero, suc, ◌≤◌, Bool, true, false, cond, ◌&&◌, ◌||◌, eqb, leb, List, [], ◌∷◌, ◌++◌, ℤ, pos, negsuc, nat_abs, Ok, Err, Result, sym, refl, ap, ◌∙◌, subst, ap₂, append_assoc, arith}
+use mathlib.Core.Bool.{or-false, and-true, and-false}
+use Rattle.std.proofs.lemmas.Bool.{and_from, and_left, le-leb, lt-leb, both_ways}
 use Rattle.std.proofs.lemmas.Bool.Decides.{nat_tests}
 use Rattle.lexer.specs.Numerals.{numeral_of, number_of}
 use Rattle.points.specs.Sets.{member, greatest}
 use Rattle.points.proofs.Members.{zero_none, same_members}
 use Rattle.points.proofs.Sizes.{top, member-last}
-use Rattle.statements.specs.Clauses.{named}
-use Rattle.statements.specs.Literals.{names, listed}
+use Rattle.statements.specs.Literals.{named, names, listed}
 use Rattle.statements.specs.Making.{is_literal, are_literals, made}
 use Rattle.statements.specs.declared.clause.Clause.{Clause}
 use Rattle.statements.specs.declared.fault.MakeFault.{MakeFault}
@@ -64,7 +64,7 @@ writes_zero rest zs more = writes_more (48 ∷ []) 10 rest (pos 0) zs (omega ari
 -- ---- all numbers are literals
 
 small_point : (k : ℕ) → suc k ≤ 64 → (leb 1 (suc k) && leb (suc k) 64) ≡ true
-small_point k h = and_from (leb 1 (suc k)) (leb (suc k) 64) (le-leb 1 (suc k) (omega arith)) (le-leb (suc k) 64 h)
+small_point k h = grind (arith, nat_tests)
 
 each_literal : (k : ℕ) (y n : Bool) → suc k ≤ 64 → are_literals (chosen k y n) ≡ true
 unfolding are_literals
@@ -81,33 +81,22 @@ all_literals c (suc k) h =
 
 -- ---- what is listed
 
-or_and : (x : Bool) → (x || false) ≡ (x && true)
-or_and true = refl
-or_and false = refl
-
 module _ (k : ℕ) where
   yes_listed : (p : ℕ) (y n : Bool) → listed (chosen k y n) (pos p) ≡ (eqb p (suc k) && y)
   unfolding listed
-  yes_listed p true n = or_and (eqb p (suc k))
-  yes_listed p false true = sym (and_right (eqb p (suc k)) false refl)
-  yes_listed p false false = sym (and_right (eqb p (suc k)) false refl)
+  yes_listed p true n = or-false (eqb p (suc k)) ∙ sym (and-true (eqb p (suc k)))
+  yes_listed p false true = sym (and-false (eqb p (suc k)))
+  yes_listed p false false = sym (and-false (eqb p (suc k)))
 
   no_listed : (j : ℕ) (y n : Bool) → (y ≡ true → n ≡ true → ⊥) → listed (chosen k y n) (negsuc j) ≡ (eqb (suc j) (suc k) && n)
   unfolding listed
   no_listed j true true never = absurd (never refl refl)
-  no_listed j true false never = sym (and_right (eqb (suc j) (suc k)) false refl)
-  no_listed j false true never = or_and (eqb j k) ∙ ap (λ (t : Bool). t && true) (same_suc j k)
-    where
-      same_suc : (m n : ℕ) → eqb m n ≡ eqb (suc m) (suc n)
-      same_suc m n = grind (arith, nat_tests)
-  no_listed j false false never = sym (and_right (eqb (suc j) (suc k)) false refl)
+  no_listed j true false never = sym (and-false (eqb (suc j) (suc k)))
+  no_listed j false true never = grind (arith, nat_tests)
+  no_listed j false false never = sym (and-false (eqb (suc j) (suc k)))
 
 there : (p q : ℕ) (s t : Bool) → (p ≡ q → s ≡ t) → (eqb p q && s) ≡ (eqb p q && t)
-there p q s t h = go (cases_eq p q)
-  where
-    go : (p ≡ q) ⊎ (p ≡ q → ⊥) → (eqb p q && s) ≡ (eqb p q && t)
-    go (inl e) = ap (λ (b : Bool). eqb p q && b) (h e)
-    go (inr ne) = and_left (eqb p q) s (ne_eqb p q ne) ∙ sym (and_left (eqb p q) t (ne_eqb p q ne))
+there p q s t h = grind (arith, nat_tests)
 
 -- what is listed is in the clause: of one point, of the points up to n, and of all
 one_listed : (c : Clause) (k : ℕ) (z : ℤ) → listed (literal_at c k) z ≡ (eqb (nat_abs z) (suc k) && names c.literals z)
@@ -137,18 +126,18 @@ listed_below c (suc k) z =
 module _ (c : Clause) where
   -- the numbers on the line of the clause, before its 0
   abbrev own_numbers : List ℤ
-  own_numbers = literals_of c (greatest (named c))
+  own_numbers = literals_of c (greatest (named c.literals))
 
   own_listed : (z : ℤ) → listed own_numbers z ≡ names c.literals z
-  own_listed z = listed_below c (greatest (named c)) z ∙ inside (leb (nat_abs z) (greatest (named c))) (names c.literals z) (λ h. le-leb (nat_abs z) (greatest (named c)) (bound z h))
+  own_listed z = listed_below c (greatest (named c.literals)) z ∙ inside (leb (nat_abs z) (greatest (named c.literals))) (names c.literals z) (λ h. le-leb (nat_abs z) (greatest (named c.literals)) (bound z h))
     where
       inside : (s t : Bool) → (t ≡ true → s ≡ true) → (s && t) ≡ t
-      inside s true h = and_from s true (h refl) refl
-      inside s false h = and_right s false refl
+      inside s true h = and-true s ∙ h refl
+      inside s false h = and-false s
 
-      bound : (z : ℤ) → names c.literals z ≡ true → nat_abs z ≤ greatest (named c)
-      bound (pos p) h = member-last (named c) p (names_point c (pos p) h)
-      bound (negsuc k) h = member-last (named c) (suc k) (names_point c (negsuc k) h)
+      bound : (z : ℤ) → names c.literals z ≡ true → nat_abs z ≤ greatest (named c.literals)
+      bound (pos p) h = member-last (named c.literals) p (names_point c (pos p) h)
+      bound (negsuc k) h = member-last (named c.literals) (suc k) (names_point c (negsuc k) h)
 
   -- so the clause is made of its numbers
   own_made : made own_numbers ≡ Ok c.literals
@@ -163,7 +152,7 @@ module _ (c : Clause) where
           denials : (p : ℕ) → member s.no p ≡ member c.literals.no p
           denials zero = zero_none s.no ∙ sym (zero_none c.literals.no)
           denials (suc k) = law (negsuc k) ∙ own_listed (negsuc k)
-      go (Err Magnitude) law = absurd (both_ways (are_literals own_numbers) law (all_literals c (greatest (named c)) (top (named c)).small))
+      go (Err Magnitude) law = absurd (both_ways (are_literals own_numbers) law (all_literals c (greatest (named c.literals)) (top (named c.literals)).small))
       go (Err Opposed) (lit, (p, y, n)) = absurd (never_both c.literals (suc p) (sym (own_listed (pos (suc p))) ∙ y) (sym (own_listed (negsuc p)) ∙ n))
 
 -- ---- the lines of the clauses
@@ -182,7 +171,7 @@ pub lines_write : (cs : List Clause) → Writes (clause_lines cs) (line_numbers 
 unfolding clause_lines line_numbers
 lines_write [] = writes_none
 lines_write (c ∷ cs) =
-    let n = greatest (named c) in
-    let few : n ≤ 99999 = omega (arith, (top (named c)).small) in
+    let n = greatest (named c.literals) in
+    let few : n ≤ 99999 = omega (arith, (top (named c.literals)).small) in
     subst (λ bs. Writes bs (own_numbers c ++ pos 0 ∷ line_numbers cs)) (sym (append_assoc (literals_text c n) (48 ∷ 10 ∷ []) (clause_lines cs)))
     (writes_literals c n (48 ∷ 10 ∷ clause_lines cs) (pos 0 ∷ line_numbers cs) few (writes_zero (clause_lines cs) (line_numbers cs) (lines_write cs)))

@@ -2,11 +2,12 @@
 use Rattle.std.proofs.Common.{◌≡◌, ℕ, zero, suc, ◌+◌, ◌-◌, ◌/◌, ◌%◌, ◌^◌, ◌<◌, ◌≤◌, true, false, eqb, ltb, leb, List, [], ◌∷◌, ◌++◌, map, length, pos, negsuc, Some, sym, refl, ap, ◌∙◌, pow-suc, arith}
 use Rattle.std.proofs.lemmas.Int.Digits.{number_push}
 use Rattle.std.proofs.lemmas.List.{length_push, map_push}
-use Rattle.std.proofs.lemmas.Bool.{and_parts, and_from, or_from, leb-true, le-leb, ltb-true, ltb-false, ne_eqb, cond_both, cond-false}
+use Rattle.std.proofs.lemmas.Bool.Decides.{nat_tests}
+use Rattle.std.proofs.lemmas.Bool.{and_parts, and_from, leb-true, ltb-true, ltb-false, ne_eqb, cond_both, cond-false}
 use Rattle.std.specs.Char.{is_ascii_digit}
 use Rattle.std.specs.List.{AllByRecursion}
 use Rattle.std.specs.Int.Digits.{number_from_digits}
-use Rattle.lexer.specs.Numerals.{all_digits, decimal, numeral_of, plus, minus, number_of}
+use Rattle.lexer.specs.Numerals.{all_digits, decimal, numeral_length, numeral_of, plus, minus, number_of}
 use Rattle.lexer.specs.Text.{is_line_end, is_blank, is_separator}
 use Rattle.lexer.proofs.Decimals.{numeral_is}
 use Rattle.dimacs.specs.Plain.{digits_by, decimal_of}
@@ -19,7 +20,7 @@ record Written (most v : ℕ) (bs : List ℕ) : Type 0 where
   worth : decimal bs ≡ v
 
 a_digit : (d : ℕ) → d < 10 → is_ascii_digit (48 + d) ≡ true
-a_digit d h = and_from (leb 48 (48 + d)) (leb (48 + d) 57) (le-leb 48 (48 + d) (omega arith)) (le-leb (48 + d) 57 (omega arith))
+a_digit d h = grind (arith, nat_tests)
 
 digits_push : (bs : List ℕ) (b : ℕ) → all_digits bs ≡ true → is_ascii_digit b ≡ true → all_digits (bs ++ b ∷ []) ≡ true
 digits_push [] b h d = and_from (is_ascii_digit b) true d refl
@@ -65,7 +66,9 @@ pub decimal_numeral : (v : ℕ) → v ≤ 99999 → numeral_of (decimal_of v) �
 decimal_numeral v h =
     let w = decimal_written v h in
     let count = length (decimal_of v) in
-    let fits = and_from (leb 1 count) (leb count 5) (le-leb 1 count w.some) (le-leb count 5 w.few) in
+    let some = w.some in
+    let few = w.few in
+    let fits : numeral_length count ≡ true = grind (arith, nat_tests) in
     sym (numeral_is (decimal_of v) fits w.digits) ∙ ap Some w.worth
 
 -- ---- a digit is no line end, no blank and no separator
@@ -77,13 +80,13 @@ each_digit P p (b ∷ bs) h =
     (p b (leb-true 48 b (and_parts (leb 48 b) (leb b 57) two.0).0), each_digit P p bs two.1)
 
 no_line_end : (b : ℕ) → 48 ≤ b → is_line_end b ≡ false
-no_line_end b h = ne_eqb b 10 (λ e. omega arith)
+no_line_end b h = grind (arith, nat_tests)
 
 no_blank : (b : ℕ) → 48 ≤ b → is_blank b ≡ false
-no_blank b h = or_from (eqb b 32) (eqb b 9) (ne_eqb b 32 (λ e. omega arith)) (ne_eqb b 9 (λ e. omega arith))
+no_blank b h = grind (arith, nat_tests)
 
 no_separator : (b : ℕ) → 48 ≤ b → is_separator b ≡ false
-no_separator b h = or_from _ (is_line_end b) (or_from (is_blank b) (eqb b 13) (no_blank b h) (ne_eqb b 13 (λ e. omega arith))) (no_line_end b h)
+no_separator b h = grind (arith, nat_tests)
 
 module _ (v : ℕ) (h : v ≤ 99999) where
   pub decimal_unbroken : AllByRecursion (λ b. is_line_end b ≡ false) (decimal_of v)

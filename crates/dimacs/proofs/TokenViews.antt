@@ -1,6 +1,6 @@
 -- The ways in which a token is taken or refused. Assumes nothing.
-use Rattle.std.proofs.Common.{◌≡◌, ℕ, zero, suc, ◌<◌, ◌≤◌, true, false, cond, ltb, leb, ◌⊎◌, List, [], ◌∷◌, ◌++◌, length, ℤ, pos, negsuc, nat_abs, Some, None, Ok, Err, Option, Result, sym, refl, subst, inl, inr}
-use Rattle.std.proofs.lemmas.Bool.{cases_Bool, cond-true, cond-false, leb-true, leb-false, ltb-true}
+use Rattle.std.proofs.Common.{◌≡◌, ℕ, zero, suc, ◌<◌, ◌≤◌, true, ltb, leb, List, [], ◌∷◌, ◌++◌, length, ℤ, pos, negsuc, nat_abs, Some, None, Ok, Err, Option, Result, refl}
+use Rattle.std.proofs.lemmas.Bool.{cond_both, leb-true, leb-false, ltb-true}
 use Rattle.cases.specs.Refusals.{usable}
 use Rattle.cases.specs.declared.fault.FileFault.TheVariants.{Beyond, Full}
 use Rattle.lexer.specs.Numerals.{number_of}
@@ -24,52 +24,26 @@ module _ (n announced rows : ℕ) (st : Progress) (bs : List ℕ) where
 
   module _ (under : length st.filed < announced) where
     end_view : number_of bs ≡ Some (pos 0) → View (end_token rows st)
-    end_view is = go (cases_Bool (ltb (length st.filed) (usable rows)))
-      where
-        go : (ltb (length st.filed) (usable rows) ≡ true) ⊎ (ltb (length st.filed) (usable rows) ≡ false) → View (end_token rows st)
-        go (inl t) =
-            subst View (sym (cond-true (ltb (length st.filed) (usable rows)) _ (Err (File Full)) t))
-            (finish under is (ltb-true (length st.filed) (usable rows) t))
-        go (inr f) = subst View (sym (cond-false (ltb (length st.filed) (usable rows)) _ (Err (File Full)) f)) (stop (File Full))
+    end_view is = cond_both (ltb (length st.filed) (usable rows)) _ _ View (λ t. finish under is (ltb-true (length st.filed) (usable rows) t)) (λ f. stop (File Full))
 
     extended_view : (z : ℤ) → number_of bs ≡ Some z → is_literal z ≡ true → nat_abs z ≤ n → (r : Result LiteralSet MakeFault) → extended st.pending z ≡ r
         → View (with_pending st.filed (as_cause r))
     extended_view z is lit low (Ok s) e = literal z s under is lit low e
     extended_view z is lit low (Err e) _ = stop (Make e)
 
-    point_view : (z : ℤ) → number_of bs ≡ Some z → is_literal z ≡ true → (leb (nat_abs z) n ≡ true) ⊎ (leb (nat_abs z) n ≡ false)
-        → View (with_pending st.filed (cond (leb (nat_abs z) n) (as_cause (extended st.pending z)) (Err (File Beyond))))
-    point_view z is lit (inl t) =
-        subst (λ (r : Result LiteralSet Cause). View (with_pending st.filed r))
-        (sym (cond-true (leb (nat_abs z) n) (as_cause (extended st.pending z)) (Err (File Beyond)) t))
-        (extended_view z is lit (leb-true (nat_abs z) n t) (extended st.pending z) refl)
-    point_view z is lit (inr f) =
-        subst (λ (r : Result LiteralSet Cause). View (with_pending st.filed r))
-        (sym (cond-false (leb (nat_abs z) n) (as_cause (extended st.pending z)) (Err (File Beyond)) f)) (stop (File Beyond))
-
-    literal_view : (z : ℤ) → number_of bs ≡ Some z → (is_literal z ≡ true) ⊎ (is_literal z ≡ false) → View (with_pending st.filed (literal_token n st.pending z))
-    literal_view z is (inl t) =
-        subst (λ (r : Result LiteralSet Cause). View (with_pending st.filed r))
-        (sym (cond-true (is_literal z) (cond (leb (nat_abs z) n) (as_cause (extended st.pending z)) (Err (File Beyond))) (Err (Make Magnitude)) t))
-        (point_view z is t (cases_Bool (leb (nat_abs z) n)))
-    literal_view z is (inr f) =
-        subst (λ (r : Result LiteralSet Cause). View (with_pending st.filed r))
-        (sym (cond-false (is_literal z) (cond (leb (nat_abs z) n) (as_cause (extended st.pending z)) (Err (File Beyond))) (Err (Make Magnitude)) f))
-        (stop (Make Magnitude))
+    literal_view : (z : ℤ) → number_of bs ≡ Some z → View (with_pending st.filed (literal_token n st.pending z))
+    literal_view z is =
+        let Pends : Result LiteralSet Cause → Type 0 = λ r. View (with_pending st.filed r) in
+        cond_both (is_literal z) _ _ Pends
+        (λ lit. cond_both (leb (nat_abs z) n) _ _ Pends (λ low. extended_view z is lit (leb-true (nat_abs z) n low) (extended st.pending z) refl) (λ f. stop (File Beyond)))
+        (λ f. stop (Make Magnitude))
 
     number_view : (o : Option ℤ) → number_of bs ≡ o → View (or_token n rows st o)
     number_view None is = stop Token
     number_view (Some (pos zero)) is = end_view is
-    number_view (Some (pos (suc p))) is = literal_view (pos (suc p)) is (cases_Bool (is_literal (pos (suc p))))
-    number_view (Some (negsuc k)) is = literal_view (negsuc k) is (cases_Bool (is_literal (negsuc k)))
+    number_view (Some (pos (suc p))) is = literal_view (pos (suc p)) is
+    number_view (Some (negsuc k)) is = literal_view (negsuc k) is
 
   pub token_view : View (token n announced rows st bs)
   unfolding token
-  token_view = go (cases_Bool (leb announced (length st.filed)))
-    where
-      go : (leb announced (length st.filed) ≡ true) ⊎ (leb announced (length st.filed) ≡ false)
-          → View (cond (leb announced (length st.filed)) (Err Count) (or_token n rows st (number_of bs)))
-      go (inl t) = subst View (sym (cond-true (leb announced (length st.filed)) (Err Count) (or_token n rows st (number_of bs)) t)) (stop Count)
-      go (inr f) =
-          subst View (sym (cond-false (leb announced (length st.filed)) (Err Count) (or_token n rows st (number_of bs)) f))
-          (number_view (leb-false announced (length st.filed) f) (number_of bs) refl)
+  token_view = cond_both (leb announced (length st.filed)) _ _ View (λ t. stop Count) (λ f. number_view (leb-false announced (length st.filed) f) (number_of bs) refl)

@@ -6,7 +6,7 @@ use Rattle.lexer.specs.Headers.{headed, header_of}
 use Rattle.lexer.specs.Numerals.{number_of}
 use Rattle.lexer.specs.Text.{Piece, lines_from, tokens}
 use Rattle.points.specs.Sets.{greatest}
-use Rattle.statements.specs.Clauses.{named}
+use Rattle.statements.specs.Literals.{named}
 use Rattle.statements.specs.Making.{made}
 use Rattle.statements.specs.declared.clause.Clause.{Clause}
 use Rattle.dimacs.specs.Reading.{reading, over}
@@ -31,7 +31,7 @@ pub data Spells : List ℤ → List Clause → Type 0 where
 -- each clause is on the points 1 to n
 abbrev pub OnPoints : ℕ → List Clause → Type 0
 OnPoints n [] = Unit {0}
-OnPoints n (c ∷ cs) = (greatest (named c) ≤ n) × OnPoints n cs
+OnPoints n (c ∷ cs) = (greatest (named c.literals) ≤ n) × OnPoints n cs
 
 -- the text announces n points and so many clauses, and its numbers spell these clauses
 pub record Denotes (text : List ℕ) (n : ℕ) (cs : List Clause) : Type 0 where

@@ -3,7 +3,8 @@ use Rattle.std.specs.Prelude.{◌≡◌, ℕ, zero, suc, ◌+◌, ◌/◌, ◌%�
 use Rattle.std.proofs.Common.{lit<}
 use Rattle.cases.specs.Refusals.{usable}
 use Rattle.points.specs.Sets.{member, common, is_empty, greatest}
-use Rattle.statements.specs.Clauses.{clause_of, named}
+use Rattle.statements.specs.Literals.{named}
+use Rattle.statements.specs.Clauses.{clause_of}
 use Rattle.statements.specs.declared.clause.Clause.{Clause}
 use Rattle.dimacs.specs.Denoting.{OnPoints, Case}
 use Rattle.dimacs.specs.Reading.{accepted, reading}
@@ -28,7 +29,7 @@ literals_text c zero = []
 literals_text c (suc k) = literals_text c k ++ literal_text c (suc k)
 
 abbrev pub clause_line : Clause → List ℕ
-clause_line c = literals_text c (greatest (named c)) ++ 48 ∷ 10 ∷ []
+clause_line c = literals_text c (greatest (named c.literals)) ++ 48 ∷ 10 ∷ []
 
 unfoldable pub clause_lines : List Clause → List ℕ
 clause_lines [] = []

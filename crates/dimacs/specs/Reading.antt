@@ -1,5 +1,5 @@
 -- What a text says: the case that it opens and the clauses that it files, or the first refusal. Assumes nothing.
-use Rattle.std.specs.Prelude.{ℕ, zero, suc, ◌+◌, cond, ◌&&◌, List, [], ◌∷◌, ◌++◌, length, drop, ℤ, pos, negsuc, Some, None, Ok, Err, Option, Result, ◌==◌, nat_le, nat_lt, unsigned_abs}
+use Rattle.std.specs.Prelude.{ℕ, zero, suc, ◌+◌, cond, ◌&&◌, List, [], ◌∷◌, ◌++◌, length, drop, ℤ, pos, negsuc, Some, None, Ok, Err, Option, Result, ◌==◌, nat_le, nat_lt, unsigned_abs, codes, decimal}
 use Rattle.cases.specs.Refusals.{open_refusal, file_refusal, usable}
 use Rattle.cases.specs.declared.fault.FileFault.TheVariants.{Beyond, Full}
 use Rattle.cases.specs.declared.fault.OpenFault.TheVariants.{Points}
@@ -27,6 +27,10 @@ cause_number Count = 23
 cause_number (Open e) = (open_refusal e).0
 cause_number (Make e) = (make_refusal e).0
 cause_number (File e) = (file_refusal e).0
+
+-- a refusal as it is printed: its number, and the place
+abbrev pub fault_text : Fault → List ℕ
+fault_text f = codes "refused " ++ decimal (cause_number f.cause) ++ codes " at " ++ decimal f.place
 
 -- the clauses that are filed so far, and the literals of the clause that is not finished
 pub record Progress : Type 0 where

@@ -1,11 +1,13 @@
 mod lower;
 mod number;
+mod place;
+mod shown;
 
 use cases::{FileFault, OpenFault};
 use statements::MakeFault;
 
 // Why a text is refused.
-#[derive(Clone, Copy)]
+#[derive(Clone, Copy, Debug, PartialEq, Eq)]
 pub enum Cause {
     // The text has more than 16,384 bytes.
     Long,
@@ -21,7 +23,7 @@ pub enum Cause {
 }
 
 // Why a text is refused, and the place of the byte at which it is.
-#[derive(Clone, Copy)]
+#[derive(Clone, Copy, Debug, PartialEq, Eq)]
 pub struct Fault {
     pub cause: Cause,
     pub place: usize,

@@ -1,47 +1,35 @@
-use cases::OpenCase;
+use cases::{FileFault, OpenCase, OpenFault};
 use statements::Clause;
 use std::test::Fail;
 
-// The number of the refusal, or 0.
-fn refusal(points: u32) -> u32 {
-    match OpenCase::open(points) {
-        Ok(_) => 0,
-        Err(fault) => fault.number(),
-    }
+// The number of the refusal to open a case of so many points, if it is refused. One line over another call than that of `clauses`.
+fn refusal(points: u32) -> Option<u32> {
+    OpenCase::open(points).err().map(OpenFault::number)
 }
 
 #[test]
 fn opens(rt: HostRuntime) {
-    assert_eq!(rt; refusal(0), 1);
-    assert_eq!(rt; refusal(1), 0);
-    assert_eq!(rt; refusal(64), 0);
-    assert_eq!(rt; refusal(65), 1);
+    assert_eq!(rt; refusal(0), Some(1));
+    assert_eq!(rt; refusal(1), None);
+    assert_eq!(rt; refusal(64), None);
+    assert_eq!(rt; refusal(65), Some(1));
 }
 
-// The number that the clause gets, or 100 and the number of the refusal.
-fn filed(case: &mut OpenCase, table: &mut [Clause], clause: Clause) -> usize {
-    match case.file(table, clause) {
-        Ok(number) => number,
-        Err(fault) => 100 + fault.number() as usize,
-    }
+// The number that the clause gets, or that of the refusal.
+fn filed(case: &mut OpenCase, table: &mut [Clause], clause: Clause) -> Result<usize, u32> {
+    case.file(table, clause).map_err(FileFault::number)
 }
 
 #[test]
 fn files(rt: HostRuntime) -> Result<(), Fail> {
-    let Ok(low) = Clause::make(&[-3]) else {
-        return Err(Fail::new("no clause of -3"));
-    };
-    let Ok(high) = Clause::make(&[4]) else {
-        return Err(Fail::new("no clause of 4"));
-    };
-    let Ok(mut case) = OpenCase::open(3) else {
-        return Err(Fail::new("no case is opened"));
-    };
+    let low = Clause::make(&[-3])?;
+    let high = Clause::make(&[4])?;
+    let mut case = OpenCase::open(3)?;
     let mut table = [high; 2];
-    assert_eq!(rt; filed(&mut case, &mut table, high), 104);
-    assert_eq!(rt; filed(&mut case, &mut table, low), 0);
-    assert_eq!(rt; filed(&mut case, &mut table, low), 1);
-    assert_eq!(rt; filed(&mut case, &mut table, low), 105);
+    assert_eq!(rt; filed(&mut case, &mut table, high), Err(4));
+    assert_eq!(rt; filed(&mut case, &mut table, low), Ok(0));
+    assert_eq!(rt; filed(&mut case, &mut table, low), Ok(1));
+    assert_eq!(rt; filed(&mut case, &mut table, low), Err(5));
     assert_eq!(rt; case.filed(), 2);
     Ok(())
 }

@@ -1,21 +1,19 @@
 use cases::OpenCase;
-use dimacs::{Fault, read};
+use dimacs::{Cause, Fault, read};
 use statements::{Clause, LiteralSet, Statement};
 use std::alloc::{AllocError, Global};
 use std::test::Fail;
 
 const ROWS: usize = 512;
 
-// What reading gives: a refusal's number and place, or 0 and how many clauses are filed.
-fn outcome(res: Result<OpenCase, Fault>) -> (u32, usize) {
-    match res {
-        Ok(case) => (0, case.filed()),
-        Err(fault) => (fault.cause.number(), fault.place),
-    }
+// What reading gives: how many clauses are filed, or a refusal's number and place.
+fn outcome(res: Result<OpenCase, Fault>) -> Result<usize, (u32, usize)> {
+    res.map(|case| case.filed())
+        .map_err(|fault| (fault.cause.number(), fault.place))
 }
 
-fn read_text(text: &[u8]) -> (u32, usize) {
-    let mut table = [Clause::of(LiteralSet::empty()); ROWS];
+fn read_text(text: &[u8]) -> Result<usize, (u32, usize)> {
+    let mut table = [Clause::from(LiteralSet::empty()); ROWS];
     outcome(read(text, &mut table))
 }
 
@@ -35,8 +33,16 @@ fn accepted(rt: HostRuntime) {
         ("p cnf 2 3\n0 0 0", 3),
     ];
     for (text, clauses) in texts {
-        assert_eq!(rt; read_text(text.as_bytes()), (0, clauses), "{}", text);
+        assert_eq!(rt; read_text(text.as_bytes()), Ok(clauses), "{}", text);
     }
+}
+
+// The first of the texts that is not refused with its number, at its place.
+fn misread<'a>(texts: &'a [(&'a str, u32, usize)]) -> Option<&'a str> {
+    texts
+        .iter()
+        .find(|(text, number, place)| read_text(text.as_bytes()) != Err((*number, *place)))
+        .map(|(text, _, _)| *text)
 }
 
 #[test]
@@ -59,9 +65,7 @@ fn refused_header(rt: HostRuntime) {
         ("p cnf 99999 99999", 1, 6),
         ("P cnf 1 0", 21, 0),
     ];
-    for (text, number, place) in texts {
-        assert_eq!(rt; read_text(text.as_bytes()), (number, place), "{}", text);
-    }
+    assert_eq!(rt; misread(&texts), None);
 }
 
 #[test]
@@ -88,20 +92,13 @@ fn refused_tokens(rt: HostRuntime) {
         ("p cnf 1 2\n1 0", 23, 13),
         ("p cnf 1 99999\n1 0\n", 23, 18),
     ];
-    for (text, number, place) in texts {
-        assert_eq!(rt; read_text(text.as_bytes()), (number, place), "{}", text);
-    }
+    assert_eq!(rt; misread(&texts), None);
 }
 
 // The text with as many spaces at its end as make it so long.
 fn padded(heap: Global, text: &[u8], long: usize) -> Result<Vec<u8>, AllocError> {
     let mut bytes = Vec::from_slice(heap, text)?;
-    for _ in 0..long {
-        if bytes.len() >= long {
-            break;
-        }
-        bytes.push(b' ')?;
-    }
+    bytes.resize(long, b' ')?;
     Ok(bytes)
 }
 
@@ -109,50 +106,56 @@ fn padded(heap: Global, text: &[u8], long: usize) -> Result<Vec<u8>, AllocError>
 fn length_limit(rt: HostRuntime) -> Result<(), Fail> {
     let whole = padded(rt.alloc(), b"p cnf 1 1\n1 0\n", 16384)?;
     assert_eq!(rt; whole.len(), 16384);
-    assert_eq!(rt; read_text(whole.as_slice()), (0, 1));
+    assert_eq!(rt; read_text(whole.as_slice()), Ok(1));
     let over = padded(rt.alloc(), b"p cnf 1 1\n1 0\n", 16385)?;
     assert_eq!(rt; over.len(), 16385);
-    assert_eq!(rt; read_text(over.as_slice()), (20, 16384));
+    assert_eq!(rt; read_text(over.as_slice()), Err((20, 16384)));
     let wrong = padded(rt.alloc(), b"q", 16385)?;
-    assert_eq!(rt; read_text(wrong.as_slice()), (20, 16384));
+    assert_eq!(rt; read_text(wrong.as_slice()), Err((20, 16384)));
     let last = padded(rt.alloc(), b"p cnf 1 2\n1 0\n", 16384)?;
-    assert_eq!(rt; read_text(last.as_slice()), (23, 16384));
+    assert_eq!(rt; read_text(last.as_slice()), Err((23, 16384)));
     Ok(())
 }
 
 // The header, and then so many clauses of one literal.
 fn many(heap: Global, header: &[u8], clauses: usize) -> Result<Vec<u8>, AllocError> {
     let mut bytes = Vec::from_slice(heap, header)?;
-    for _ in 0..clauses {
-        bytes.extend_from_slice(b"1 0\n")?;
-    }
+    bytes.extend_from_slice(b"1 0\n".as_slice().repeat(heap, clauses)?.as_slice())?;
     Ok(bytes)
 }
 
 #[test]
 fn row_limit(rt: HostRuntime) -> Result<(), Fail> {
     let full = many(rt.alloc(), b"p cnf 1 512\n", 512)?;
-    assert_eq!(rt; read_text(full.as_slice()), (0, 512));
+    assert_eq!(rt; read_text(full.as_slice()), Ok(512));
     let over = many(rt.alloc(), b"p cnf 1 513\n", 513)?;
-    assert_eq!(rt; read_text(over.as_slice()), (5, 2062));
+    assert_eq!(rt; read_text(over.as_slice()), Err((5, 2062)));
     let mut none: [Clause; 0] = [];
-    assert_eq!(rt; outcome(read(b"p cnf 1 1\n0", &mut none)), (5, 10));
+    assert_eq!(rt; outcome(read(b"p cnf 1 1\n0", &mut none)), Err((5, 10)));
     Ok(())
 }
 
 #[test]
 fn rows_hold_the_clauses(rt: HostRuntime) -> Result<(), Fail> {
-    let mut table = [Clause::of(LiteralSet::empty()); 3];
+    let mut table = [Clause::from(LiteralSet::empty()); 3];
     assert_eq!(rt;
         outcome(read(b"p cnf 9 2\n-7 3 0\n9 x", &mut table)),
-        (22, 19)
+        Err((22, 19))
     );
     let [first, second, third] = table;
     assert_eq!(rt; (first.length(), first.last()), (2, 7));
-    let Ok(made) = Clause::make(&[3, -7]) else {
-        return Err(Fail::new("no clause is made of 3 and -7"));
-    };
-    assert!(rt; first.covers(&made) && made.covers(&first));
+    assert!(rt; first == Clause::make(&[3, -7])?);
     assert!(rt; second.impossible() && third.impossible());
+    Ok(())
+}
+
+#[test]
+fn prints_a_refusal(rt: HostRuntime) -> Result<(), Fail> {
+    let fault = Fault {
+        cause: Cause::Token,
+        place: 31,
+    };
+    let text = format!(in rt.alloc(); "{fault}")?;
+    assert_eq!(rt; text.as_str(), "refused 22 at 31");
     Ok(())
 }

@@ -1,6 +1,5 @@
-pub mod Words
+pub mod WordLaws
 pub mod Tokens
 pub mod Decimals
-mod Letters
-mod Lines
+mod LineLaws
 mod Headlines

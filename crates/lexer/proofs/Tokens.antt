@@ -1,9 +1,9 @@
 -- The tokens of a text: its lines cut at spaces are the text cut at each separator. Assumes nothing.
 use Rattle.std.proofs.Common.{◌≡◌, ℕ, ◌+◌, true, false, cond, ◌||◌, List, [], ◌∷◌, ◌++◌, length, take, drop, sym, refl, ap, ◌∙◌, add-zero, arith}
 use Rattle.lexer.specs.Text.{Piece, is_line_end, is_space, is_separator, run, first_byte, pieces, placed, keep, solid, words, lines_from, tokens, tokens_from}
-use Rattle.lexer.specs.Cuts.{cuts_at, part, FirstWord}
+use Rattle.lexer.specs.Cuts.{cuts_at}
 use Rattle.lexer.specs.declared.pieces.Cut.TheVariants.{Space}
-use Rattle.lexer.proofs.Words.{later, pieces-run, extent, extent_pieces, words_none}
+use Rattle.lexer.proofs.WordLaws.{later, pieces-run, extent, extent_pieces, words_none}
 
 keep_append : (at : ℕ) (p : List ℕ) (ps qs : List Piece) → keep at p (ps ++ qs) ≡ keep at p ps ++ qs
 keep_append at [] ps qs = refl
@@ -70,14 +70,6 @@ tokens_words at bs = tokens_placed at (pieces is_line_end bs) ∙ ap (λ ps. sol
 
 pub tokens_none : (at : ℕ) → tokens_from at [] ≡ []
 tokens_none at = tokens_words at [] ∙ words_none (cuts_at Space) at
-
--- where `next_word` finds no word, or one, between separators
-pub no_token : (text : List ℕ) (from : ℕ) → words (cuts_at Space) from (drop from text) ≡ [] → tokens_from from (drop from text) ≡ []
-no_token text from e = tokens_words from (drop from text) ∙ e
-
-pub first_token : (text : List ℕ) (from start end : ℕ) → FirstWord (cuts_at Space) text from start end → tokens_from from (drop from text) ≡ (start, part start end text) ∷ tokens_from end (drop end text)
-first_token text from start end w =
-    tokens_words from (drop from text) ∙ w.split ∙ ap (λ ts. (start, part start end text) ∷ ts) (sym (tokens_words end (drop end text)))
 
 -- a line end before the tokens does not matter
 pub tokens_line_end : (at b : ℕ) (bs : List ℕ) → is_line_end b ≡ true → tokens_from at (b ∷ bs) ≡ tokens_from (at + 1) bs

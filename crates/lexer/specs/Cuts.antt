@@ -1,5 +1,6 @@
 -- Which bytes cut a text, and what the functions that cut it answer. Assumes nothing.
 use Rattle.std.specs.Prelude.{◌≡◌, ℕ, ◌+◌, ◌-◌, ◌<◌, ◌≤◌, Bool, not, List, ◌∷◌, length, take, drop}
+use Rattle.std.specs.Borrow.{Bor}
 use Rattle.lexer.specs.Text.{is_line_end, is_blank, is_separator, run, words}
 use Rattle.lexer.specs.declared.pieces.Cut.{Cut}
 use Rattle.lexer.specs.declared.pieces.Cut.TheVariants.{LineEnd, Blank, Space}
@@ -9,6 +10,10 @@ abbrev pub cuts_at : Cut → ℕ → Bool
 cuts_at LineEnd b = is_line_end b
 cuts_at Blank b = is_blank b
 cuts_at Space b = is_separator b
+
+-- each call of a closure answers the test of the byte, and leaves the closure as it was
+abbrev pub ComputesTest : {F : Type 0} → (F → Bor ℕ → Bool → F → Type 0) → F → (ℕ → Bool) → Type 0
+ComputesTest {F} step f test = (b : Bor ℕ) (r : Bool) (g : F) → step f b r g → (g ≡ f) × (r ≡ test b.now)
 
 -- the bytes of a text from `start` up to, not including, `end`
 abbrev pub part : ℕ → ℕ → List ℕ → List ℕ

@@ -1,4 +1,5 @@
 pub mod Text
 pub mod Cuts
+pub mod Parts
 pub mod Numerals
 pub mod Headers

@@ -1,13 +1,18 @@
 // The header line of a clause file.
-ghost use Rattle.std.specs.Prelude.{◌≡◌, ◌≤◌, length, IfSome, None, MatchOption, ◌==◌};
+ghost use Rattle.std.specs.Prelude.{◌≡◌, ◌+◌, ◌≤◌, length, IfSome, None, MatchOption, ◌==◌};
 ghost use Rattle.lexer.specs.Text.{lines_from};
-ghost use Rattle.lexer.specs.Headers.{headed, kind_of, fields_of, header_of, HeaderAt};
+ghost use Rattle.lexer.specs.Cuts.{part};
+ghost use Rattle.lexer.specs.Headers.{headed, kind_of, begins_with, fields_of, header_of, HeaderAt};
 
+use crate::lines::Lines;
 use crate::numbers::numeral;
-use crate::pieces::{Cut, Span, next_word, piece_end};
+use crate::part::Part;
+use crate::pieces::Cut;
+use crate::words::Words;
 
-// What a header line says. `points_at` is where the number of points stands in the line.
-#[derive(Clone, Copy)]
+// What a header line says. `points_at` is where the number of points stands in the line. That both numbers are at most 99,999 is no
+// ghost field, which would ask it of whoever makes a header.
+#[derive(Clone, Copy, Debug, PartialEq, Eq)]
 pub struct Header {
     pub points: u32,
     pub points_at: usize,
@@ -15,7 +20,7 @@ pub struct Header {
 }
 
 // What a line is, by its first letter: a comment begins with `c`, and a problem line, the only one that can be a header, with `p`.
-#[derive(Clone, Copy)]
+#[derive(Clone, Copy, Debug, PartialEq, Eq)]
 enum LineKind {
     Comment,
     Problem,
@@ -26,25 +31,23 @@ enum LineKind {
 fn line_kind(line: &[u8]) -> LineKind
     ensures { result ≡ kind_of line.now }
 {
-    let [first, ..] = line else {
-        return LineKind::Other;
-    };
-    match *first as char {
-        'c' => LineKind::Comment,
-        'p' => LineKind::Problem,
+    match line {
+        [b'c', ..] => LineKind::Comment,
+        [b'p', ..] => LineKind::Problem,
         _ => LineKind::Other,
     }
 }
 
 // Whether nothing follows the word on its line.
-fn ends_line(word: Span, line: &[u8]) -> bool
-    ensures { result ≡ (word.end == length line.now) }
+fn ends_line(word: Part, line: &[u8]) -> bool
+    ensures { result ≡ (word.entry.start + length word.entry.bytes.now == length line.now) }
 {
-    word.end == line.len()
+    word.end() == line.len()
 }
 
 impl Header {
     // What a header line says, or `None` where the line is no header.
+    #[tactic(auto, unfolding(crate::specs::Headers::header_of))]
     pub fn parse(line: &[u8]) -> Option<Header>
         ensures value { result ≡ header_of line.now }
         ensures bounds { IfSome result (λ h. (h.points ≤ 99999) × (h.points_at ≤ length line.now) × (h.clauses ≤ 99999)) }
@@ -56,43 +59,41 @@ impl Header {
     }
 
     // What the words of a line say, where no blank follows the last.
+    #[tactic(auto, unfolding(crate::specs::Headers::fields_of))]
     fn from_words(line: &[u8]) -> Option<Header>
-        ensures { result ≡ fields_of line.now }
+        ensures value { result ≡ fields_of line.now }
+        ensures bounds { IfSome result (λ h. (h.points ≤ 99999) × (h.points_at ≤ length line.now) × (h.clauses ≤ 99999)) }
     {
-        let letter = next_word(line, 0, Cut::Blank)?;
-        let format = next_word(line, letter.end, Cut::Blank)?;
-        let points = next_word(line, format.end, Cut::Blank)?;
-        let clauses = next_word(line, points.end, Cut::Blank)?;
+        let mut words = Words::new(line, 0, Cut::Blank);
+        let letter = words.next()?;
+        let format = words.next()?;
+        let points = words.next()?;
+        let clauses = words.next()?;
         if !ends_line(clauses, line) {
             return None;
         }
-        if &line[letter.start..letter.end] != b"p".as_slice()
-            || &line[format.start..format.end] != b"cnf".as_slice()
-        {
+        if letter.bytes != b"p".as_slice() || format.bytes != b"cnf".as_slice() {
             return None;
         }
         Some(Header {
-            points: numeral(&line[points.start..points.end])?,
+            points: numeral(points.bytes)?,
             points_at: points.start,
-            clauses: numeral(&line[clauses.start..clauses.end])?,
+            clauses: numeral(clauses.bytes)?,
         })
     }
 }
 
-// The first line that is no comment, or `None` where each line is one.
-pub fn header_line(text: &[u8]) -> Option<Span>
-    ensures { MatchOption result (headed (lines_from 0 text.now) ≡ None) (λ l. HeaderAt text.now l.start l.end) }
+// Whether a line is a comment.
+fn is_comment(line: &[u8]) -> bool
+    ensures { result ≡ begins_with 99 line.now }
 {
-    let mut start = 0;
-    loop {
-        let end = piece_end(text, start, Cut::LineEnd);
-        match line_kind(&text[start..end]) {
-            LineKind::Comment => {}
-            _ => return Some(Span { start, end }),
-        }
-        if end == text.len() {
-            return None;
-        }
-        start = end + 1;
-    }
+    line_kind(line) == LineKind::Comment
+}
+
+// The first line that is no comment, or `None` where each line is one.
+pub fn header_line(text: &[u8]) -> Option<Part<'_>>
+    ensures line { MatchOption result (headed (lines_from 0 text.now) ≡ None) (λ l. HeaderAt text.now l.start (l.start + length l.bytes.now)) }
+    ensures bytes { IfSome result (λ l. l.bytes.now ≡ part l.start (l.start + length l.bytes.now) text.now) }
+{
+    Lines::new(text).find(|line| !is_comment(line.bytes))
 }

@@ -2,9 +2,14 @@
 #![tactic(auto)]
 
 mod headers;
+mod lines;
 mod numbers;
+mod part;
 mod pieces;
+mod words;
 
 pub use headers::{Header, header_line};
 pub use numbers::number;
-pub use pieces::{Cut, Span, next_word};
+pub use part::Part;
+pub use pieces::Cut;
+pub use words::Words;

@@ -1,5 +1,5 @@
 // The numbers that tokens write.
-ghost use Rattle.std.specs.Prelude.{◌≡◌};
+ghost use Rattle.std.specs.Prelude.{◌≡◌, ◌≤◌, IfSome};
 ghost use Rattle.lexer.specs.Numerals.{numeral_length, numeral_of, minus, number_of};
 
 // A numeral has at most this many digits.
@@ -9,22 +9,21 @@ const MAX_DIGITS: usize = 5;
 fn is_numeral_length(count: usize) -> bool
     ensures { result ≡ numeral_length count }
 {
-    1 <= count && count <= MAX_DIGITS
+    (1..=MAX_DIGITS).contains(&count)
 }
 
-// The value of a numeral, which is one to five digits.
+// The value of a numeral, which is one to five digits. That it is at most 99,999 is said here and of a header: see `Header`.
+#[tactic(auto, unfolding(crate::specs::Numerals::numeral_of))]
 pub(crate) fn numeral(digits: &[u8]) -> Option<u32>
-    ensures { result ≡ numeral_of digits.now }
+    ensures value { result ≡ numeral_of digits.now }
+    ensures small { IfSome result (λ v. v ≤ 99999) }
 {
     if !is_numeral_length(digits.len()) {
         return None;
     }
     let mut value: u32 = 0;
     for byte in digits {
-        if !byte.is_ascii_digit() {
-            return None;
-        }
-        value = value * 10 + (*byte - b'0') as u32;
+        value = value * 10 + (*byte as char).to_digit(10)?;
     }
     Some(value)
 }
@@ -40,6 +39,7 @@ fn negative(digits: &[u8]) -> Option<i32>
 }
 
 // The value of a number: a numeral, or a minus and a numeral that is not 0.
+#[tactic(auto, unfolding(crate::specs::Numerals::number_of, crate::specs::Numerals::numeral_of))]
 pub fn number(token: &[u8]) -> Option<i32>
     ensures { result ≡ number_of token.now }
 {

@@ -1,21 +1,14 @@
 // A text cut into pieces at the bytes of one kind.
-ghost use Rattle.std.specs.Prelude.{◌≡◌, ◌+◌, ◌<◌, ◌≤◌, true, false, not, [], length, drop, MatchOption, slice_index};
-ghost use Rattle.lexer.specs.Text.{run, words};
-ghost use Rattle.lexer.specs.Cuts.{cuts_at, WordAt, FirstWord};
+ghost use Rattle.std.specs.Prelude.{◌≡◌, ℕ, Bool, ◌+◌, ◌<◌, ◌≤◌, true, false, length, drop, slice_index};
+ghost use Rattle.lexer.specs.Text.{run};
+ghost use Rattle.lexer.specs.Cuts.{cuts_at, WordAt, ComputesTest};
 
 // The bytes that cut a text: those between its lines, between the words of a header line, or between its tokens.
-#[derive(Clone, Copy)]
+#[derive(Clone, Copy, Debug, PartialEq, Eq)]
 pub enum Cut {
     LineEnd,
     Blank,
     Space,
-}
-
-// A part of a text, from `start` up to, not including, `end`.
-#[derive(Clone, Copy)]
-pub struct Span {
-    pub start: usize,
-    pub end: usize,
 }
 
 impl Cut {
@@ -31,43 +24,23 @@ impl Cut {
     }
 }
 
-// Where the piece that begins at `from` ends: at the first byte that cuts, or at the end of the text.
+// Where the first byte for which `found` holds stands, at `from` or later: the end of the text where there is none, and `from` where
+// the text ends before it. The end is a place like any other, at which the last piece ends, so this is no `Option`.
+pub(crate) fn first_at<F: FnMut(&u8) -> bool>(text: &[u8], from: usize, found: F) -> usize
+    requires { F.IsAlwaysCallable found }
+    ensures { (test : ℕ → Bool) → ComputesTest F.step found test → result ≡ from + run test (drop from text.now) }
+{
+    let rest = text.get(from..).unwrap_or(&[]);
+    from + rest.iter().position(found).unwrap_or(rest.len())
+}
+
+// Where the piece that begins at `from` ends: at the first byte that cuts, or at the end of the text. No method of a struct, since the
+// iterators over words and over lines, which hold different things, stand on it.
 pub(crate) fn piece_end(text: &[u8], from: usize, cut: Cut) -> usize
     ensures value { result ≡ from + run (cuts_at cut) (drop from text.now) }
     ensures inside { from ≤ length text.now → result ≤ length text.now }
     ensures stops { result < length text.now → cuts_at cut (slice_index text.now result) ≡ true }
     ensures word { from < length text.now → cuts_at cut (slice_index text.now from) ≡ false → WordAt (cuts_at cut) text.now from result }
 {
-    let mut end = from;
-    while end < text.len() && !cut.cuts(text[end]) {
-        end += 1;
-    }
-    end
-}
-
-// Where the bytes that cut end, from `from` on: at the first other byte, or at the end of the text.
-pub(crate) fn skip(text: &[u8], from: usize, cut: Cut) -> usize
-    ensures value { result ≡ from + run (λ b. not (cuts_at cut b)) (drop from text.now) }
-    ensures inside { from ≤ length text.now → result ≤ length text.now }
-    ensures stops { result < length text.now → cuts_at cut (slice_index text.now result) ≡ false }
-    ensures rest { words (cuts_at cut) from (drop from text.now) ≡ words (cuts_at cut) result (drop result text.now) }
-    ensures none { length text.now ≤ result → words (cuts_at cut) from (drop from text.now) ≡ [] }
-{
-    let mut start = from;
-    while start < text.len() && cut.cuts(text[start]) {
-        start += 1;
-    }
-    start
-}
-
-// The first word at `from` or later, or `None` where only bytes that cut are left.
-pub fn next_word(text: &[u8], from: usize, cut: Cut) -> Option<Span>
-    ensures { MatchOption result (words (cuts_at cut) from (drop from text.now) ≡ []) (λ w. FirstWord (cuts_at cut) text.now from w.start w.end) }
-{
-    let start = skip(text, from, cut);
-    if start >= text.len() {
-        return None;
-    }
-    let end = piece_end(text, start, cut);
-    Some(Span { start, end })
+    first_at(text, from, |byte| cut.cuts(*byte))
 }

@@ -1,4 +1,3 @@
 pub mod Counts
-pub mod Digits
 pub mod Members
 pub mod Sizes

@@ -1,15 +1,15 @@
 -- What the sets have for members, and that their members tell them apart. Assumes nothing.
-use Rattle.std.proofs.Common.{◌≡◌, ℕ, zero, suc, ◌+◌, ◌-◌, ◌%◌, ◌^◌, ◌<◌, ◌≤◌, min, max, Bool, true, false, not, ◌&&◌, ◌||◌, eqb, ◌⊎◌, Decides, sym, refl, ap, ◌∙◌, ap₂, inl, inr, not-suc-le-zero, mod-eq_of_lt, arith}
+use Rattle.std.proofs.Common.{◌≡◌, ℕ, zero, suc, ◌-◌, ◌^◌, ◌<◌, ◌≤◌, min, Bool, true, false, not, ◌&&◌, ◌||◌, eqb, ◌⊎◌, Decides, sym, refl, ap, ◌∙◌, inl, inr, not-suc-le-zero, mod-eq_of_lt, one-mul, ◌*◌, ◌%◌, arith, w64}
 use mathlib.Core.HLevel.{is_prop→PathP}
 use native.Mathlib.Bridge.{le_prop}
-use native.Mathlib.Nat.{zero-div}
-use lib.Bits.{bit_and}
+use lib.Bits.{bit_and, bit_or}
+use Rattle.std.specs.Int.{bit_at}
+use Rattle.std.proofs.lemmas.Nat.Bits.{bit_at_and, bit_at_or, bit_at_not, bit_at-lt, bit_at_above, bit_at-zero, bit_at-pow_same, bit_at-pow_other, same_from_bits_below}
 use lib.Pow.{pow-lt}
-use Rattle.std.proofs.lemmas.Bool.{eqb-true, eq-eqb, ne_eqb, cases_eq, cases_lt, both_ways, and_left, and_right, true≢false}
+use Rattle.std.proofs.lemmas.Bool.{false_from_ne_true, and_parts, eqb-true, eq-eqb, cases_eq, cases_lt, both_ways, true≢false}
 use Rattle.std.proofs.lemmas.Bool.Decides.{nat_tests}
 use Rattle.points.specs.Sets.{has, member, none, single, joined, common, without, is_empty, subset, same_set}
 use Rattle.points.specs.declared.set.PointSet.{PointSet}
-use Rattle.points.proofs.Digits.{digit, digit_small, or_digit, and_digit, digit_beyond, digit_opposite, same_digits, digit_power, digit_power_other}
 
 -- a set is told by its word
 pub same_word : (a b : PointSet) → a.bits ≡ b.bits → a ≡ b
@@ -29,89 +29,74 @@ zero_none s = refl
 pub beyond_none : (s : PointSet) (p : ℕ) → 64 < p → member s p ≡ false
 unfolding member has
 beyond_none s zero h = refl
-beyond_none s (suc k) h = ap (λ (d : ℕ). eqb d 1) (digit_beyond 64 s.bits k s.within (omega arith))
+beyond_none s (suc k) h = ap (λ (d : ℕ). eqb d 1) (bit_at_above s.bits 64 k s.within (omega arith))
 
 pub member_small : (s : PointSet) (p : ℕ) → member s p ≡ true → p ≤ 64
-member_small s p h = ⊎-elim' (cases_lt 64 p)
-  where
-    ⊎-elim' : (64 < p) ⊎ (p ≤ 64) → p ≤ 64
-    ⊎-elim' (inl l) = absurd (both_ways (member s p) (beyond_none s p l) h)
-    ⊎-elim' (inr l) = l
+member_small s p h = let beyond = beyond_none s p in grind arith
 
 -- ---- what each operation has for members
 
 pub member-none : (p : ℕ) → member none p ≡ false
 unfolding member has none
 member-none zero = refl
-member-none (suc k) = ap (λ (n : ℕ). eqb (n % 2) 1) (zero-div (2 ^ k))
-
-either_digit : (x y : ℕ) → x < 2 → y < 2 → eqb (max x y) 1 ≡ (eqb x 1 || eqb y 1)
-either_digit x y hx hy = grind (arith, nat_tests)
-
-both_digits : (x y : ℕ) → x < 2 → y < 2 → eqb (min x y) 1 ≡ (eqb x 1 && eqb y 1)
-both_digits x y hx hy = grind (arith, nat_tests)
-
-opposite_digit : (x : ℕ) → x < 2 → eqb (1 - x) 1 ≡ not (eqb x 1)
-opposite_digit x hx = grind (arith, nat_tests)
+member-none (suc k) = ap (λ (d : ℕ). eqb d 1) (bit_at-zero k)
 
 pub member-joined : (a b : PointSet) (p : ℕ) → member (joined a b) p ≡ (member a p || member b p)
 unfolding member has joined
 member-joined a b zero = refl
-member-joined a b (suc k) =
-    ap (λ (d : ℕ). eqb d 1) (or_digit a.bits b.bits k)
-    ∙ either_digit (digit a.bits k) (digit b.bits k) (digit_small a.bits k) (digit_small b.bits k)
+member-joined a b (suc k) = grind (arith, nat_tests, bit_at_or a.bits b.bits k, bit_at-lt a.bits k, bit_at-lt b.bits k)
 
 pub member-common : (a b : PointSet) (p : ℕ) → member (common a b) p ≡ (member a p && member b p)
 unfolding member has common
 member-common a b zero = refl
-member-common a b (suc k) =
-    ap (λ (d : ℕ). eqb d 1) (and_digit a.bits b.bits k)
-    ∙ both_digits (digit a.bits k) (digit b.bits k) (digit_small a.bits k) (digit_small b.bits k)
+member-common a b (suc k) = grind (arith, nat_tests, bit_at_and a.bits b.bits k, bit_at-lt a.bits k, bit_at-lt b.bits k)
 
 pub member-without : (a b : PointSet) (p : ℕ) → member (without a b) p ≡ (member a p && not (member b p))
 unfolding member has without
 member-without a b zero = refl
 member-without a b (suc k) = go (cases_lt k 64)
   where
-    parts : eqb (digit (bit_and a.bits (2 ^ 64 - 1 - b.bits)) k) 1 ≡ (eqb (digit a.bits k) 1 && eqb (digit (2 ^ 64 - 1 - b.bits) k) 1)
-    parts =
-        ap (λ (d : ℕ). eqb d 1) (and_digit a.bits (2 ^ 64 - 1 - b.bits) k)
-        ∙ both_digits (digit a.bits k) (digit (2 ^ 64 - 1 - b.bits) k) (digit_small a.bits k) (digit_small (2 ^ 64 - 1 - b.bits) k)
+    both : bit_at (bit_and a.bits (2 ^ 64 - 1 - b.bits)) k ≡ min (bit_at a.bits k) (bit_at (2 ^ 64 - 1 - b.bits) k)
+    both = bit_at_and a.bits (2 ^ 64 - 1 - b.bits) k
 
-    go : (k < 64) ⊎ (64 ≤ k) → eqb (digit (bit_and a.bits (2 ^ 64 - 1 - b.bits)) k) 1 ≡ (eqb (digit a.bits k) 1 && not (eqb (digit b.bits k) 1))
-    go (inl l) =
-        let sum : b.bits + (2 ^ 64 - 1 - b.bits) + 1 ≡ 2 ^ 64 = omega (arith, b.within) in
-        parts
-        ∙ ap (λ (t : Bool). eqb (digit a.bits k) 1 && t)
-        (ap (λ (d : ℕ). eqb d 1) (digit_opposite 64 b.bits (2 ^ 64 - 1 - b.bits) k sum l) ∙ opposite_digit (digit b.bits k) (digit_small b.bits k))
-    go (inr l) =
-        let gone : eqb (digit a.bits k) 1 ≡ false = ap (λ (d : ℕ). eqb d 1) (digit_beyond 64 a.bits k a.within l) in
-        parts ∙ ap (λ (t : Bool). t && eqb (digit (2 ^ 64 - 1 - b.bits) k) 1) gone ∙ sym (ap (λ (t : Bool). t && not (eqb (digit b.bits k) 1)) gone)
+    go : (k < 64) ⊎ (64 ≤ k) → eqb (bit_at (bit_and a.bits (2 ^ 64 - 1 - b.bits)) k) 1 ≡ (eqb (bit_at a.bits k) 1 && not (eqb (bit_at b.bits k) 1))
+    go (inl l) = grind (arith, nat_tests, both, bit_at_not w64 b.bits k b.within l, bit_at-lt a.bits k, bit_at-lt b.bits k)
+    go (inr l) = grind (arith, nat_tests, both, bit_at_above a.bits 64 k a.within l)
 
 pub member-single : (q p : ℕ) → 1 ≤ q → q ≤ 64 → member (single q) p ≡ eqb p q
 unfolding member has single
 member-single zero p low high = absurd (not-suc-le-zero low)
-member-single (suc j) zero low high = sym (ne_eqb 0 (suc j) (λ e. omega arith))
-member-single (suc j) (suc k) low high = ap (λ (n : ℕ). eqb (digit n k) 1) (mod-eq_of_lt (pow-lt high)) ∙ go (cases_eq j k)
+member-single (suc j) zero low high = grind (arith, nat_tests)
+member-single (suc j) (suc k) low high = ap (λ (n : ℕ). eqb (bit_at n k) 1) (mod-eq_of_lt (pow-lt high)) ∙ go (cases_eq k j)
   where
-    go : (j ≡ k) ⊎ (j ≡ k → ⊥) → eqb (digit (2 ^ j) k) 1 ≡ eqb (suc k) (suc j)
-    go (inl e) =
-        ap (λ (i : ℕ). eqb (digit (2 ^ j) i) 1) (sym e)
-        ∙ ap (λ (d : ℕ). eqb d 1) (digit_power j)
-        ∙ sym (eq-eqb (suc k) (suc j) (omega arith))
-    go (inr ne) = ap (λ (d : ℕ). eqb d 1) (digit_power_other j k ne) ∙ sym (ne_eqb (suc k) (suc j) (λ e. ne (omega arith)))
+    go : (k ≡ j) ⊎ (k ≡ j → ⊥) → eqb (bit_at (2 ^ j) k) 1 ≡ eqb (suc k) (suc j)
+    go (inl e) = ap (λ (i : ℕ). eqb (bit_at (2 ^ j) i) 1) e ∙ ap (λ (d : ℕ). eqb d 1) (bit_at-pow_same j) ∙ sym (eq-eqb (suc k) (suc j) (ap suc e))
+    go (inr ne) = grind (arith, nat_tests, bit_at-pow_other j k ne)
+
+-- the word of a union has 64 digits
+pub joined_fits : (a b : PointSet) → bit_or a.bits b.bits < 2 ^ 64
+unfolding joined
+joined_fits a b = (joined a b).within
+
+-- the word that is made of one point
+pub single-bits : (n : ℕ) → 1 ≤ n → (single n).bits ≡ 1 * 2 ^ (n - 1) % 2 ^ 64
+unfolding single
+single-bits zero low = absurd (not-suc-le-zero low)
+single-bits (suc k) low = let j : suc k - 1 ≡ k = omega arith in rw (j, one-mul)
+
+pub member_word : (s : PointSet) (n p : ℕ) → 1 ≤ n → n ≤ 64 → s.bits ≡ 1 * 2 ^ (n - 1) % 2 ^ 64 → member s p ≡ eqb p n
+member_word s n p low high e = ap (λ (t : PointSet). member t p) (same_word s (single n) (e ∙ sym (single-bits n low))) ∙ member-single n p low high
+
+-- what the functions that make these sets are proved by
+pub ruleset members = (same_word, single-bits, joined_fits, member-none, member_word, member-joined, member-common, member-without)
 
 -- ---- sets with the same members are equal
-
-same_test : (x y : ℕ) → x < 2 → y < 2 → eqb x 1 ≡ eqb y 1 → x ≡ y
-same_test x y hx hy e = grind (arith, nat_tests)
 
 pub same_members : (a b : PointSet) → ((p : ℕ) → member a p ≡ member b p) → a ≡ b
 unfolding member has
 same_members a b h =
     same_word a b
-    (same_digits 64 a.bits b.bits a.within b.within
-    (λ k l. same_test (digit a.bits k) (digit b.bits k) (digit_small a.bits k) (digit_small b.bits k) (h (suc k))))
+    (same_from_bits_below 64 a.bits b.bits a.within b.within (λ k l. let e = h (suc k) in grind (arith, nat_tests, bit_at-lt a.bits k, bit_at-lt b.bits k)))
 
 -- ---- the tests
 
@@ -135,26 +120,14 @@ same_set_members a b = (
 -- two sets, each without the members of the other, have nothing in common
 pub differences_apart : (a b : PointSet) → is_empty (common (without a b) (without b a)) ≡ true
 differences_apart a b = (empty_decides (common (without a b) (without b a))).1 (λ p.
-    member-common (without a b) (without b a) p
-    ∙ ap₂ (λ (x y : Bool). x && y) (member-without a b p) (member-without b a p)
-    ∙ never (member a p) (member b p))
-  where
-    never : (x y : Bool) → ((x && not y) && (y && not x)) ≡ false
-    never true true = refl
-    never true false = refl
-    never false y = refl
+    let both = member-common (without a b) (without b a) p in
+    let left = member-without a b p in
+    let right = member-without b a p in
+    grind (arith, nat_tests))
 
 -- a set with a member is not empty
 pub some_not_empty : (s : PointSet) (p : ℕ) → member s p ≡ true → is_empty s ≡ false
-some_not_empty s p h = go (is_empty s) refl
-  where
-    go : (b : Bool) → is_empty s ≡ b → is_empty s ≡ false
-    go true e = absurd (both_ways (member s p) ((empty_decides s).0 e p) h)
-    go false e = e
-
-inside : (x y : Bool) → (x && y) ≡ x → x ≡ true → y ≡ true
-inside true y e h = e
-inside false y e h = absurd (true≢false (sym h))
+some_not_empty s p h = false_from_ne_true (is_empty s) (λ e. both_ways (member s p) ((empty_decides s).0 e p) h)
 
 inside_from : (x y : Bool) → (x ≡ true → y ≡ true) → (x && y) ≡ x
 inside_from true y h = h refl
@@ -164,9 +137,7 @@ pub subset_decides : (a b : PointSet) → Decides (subset a b) ((p : ℕ) → me
 unfolding subset common
 subset_decides a b = (
   λ e p h.
-      inside (member a p) (member b p)
-      (sym (member-common a b p) ∙ ap (λ (t : PointSet). member t p) (same_word (common a b) a (eqb-true (bit_and a.bits b.bits) a.bits e)))
-      h,
+      (and_parts (member a p) (member b p) (sym (member-common a b p) ∙ ap (λ (t : PointSet). member t p) (same_word (common a b) a (eqb-true (bit_and a.bits b.bits) a.bits e)) ∙ h)).1,
   λ h.
       eq-eqb (bit_and a.bits b.bits) a.bits
       (ap (λ (t : PointSet). t.bits)
@@ -181,17 +152,10 @@ contains_single s q low high = go (member s q) refl
     at p = member-common s (single q) p ∙ ap (λ (t : Bool). member s p && t) (member-single q p low high)
 
     here : member (common s (single q)) q ≡ member s q
-    here =
-        at q
-        ∙ ap (λ (t : Bool). member s q && t) (eq-eqb q q refl)
-        ∙ inside_from (member s q) true (λ h. refl)
+    here = let a = at q in grind (arith, nat_tests)
 
     none : member s q ≡ false → (p : ℕ) → member (common s (single q)) p ≡ false
-    none h p = at p ∙ split (cases_eq p q)
-      where
-        split : (p ≡ q) ⊎ (p ≡ q → ⊥) → (member s p && eqb p q) ≡ false
-        split (inl e) = and_left (member s p) (eqb p q) (ap (member s) e ∙ h)
-        split (inr ne) = and_right (member s p) (eqb p q) (ne_eqb p q ne)
+    none h p = let a = at p in grind (arith, nat_tests)
 
     go : (b : Bool) → member s q ≡ b → not (is_empty (common s (single q))) ≡ member s q
     go true h = ap not (some_not_empty (common s (single q)) q (here ∙ h)) ∙ sym h

@@ -1,13 +1,14 @@
 -- The size of a set and its greatest member, by its members. Assumes nothing.
-use Rattle.std.proofs.Common.{◌≡◌, ℕ, zero, suc, ◌+◌, ◌-◌, ◌*◌, ◌/◌, ◌%◌, ◌^◌, ◌<◌, ◌≤◌, true, false, cond, eqb, ◌⊎◌, sym, refl, ap, ◌∙◌, subst, ap₂, inl, inr, le_of_suc-le-suc, not-suc-le-zero, mod-lt, mod-eq_of_lt, pow-suc, one-add, arith, lit<}
+use Rattle.std.proofs.Common.{◌≡◌, ℕ, zero, suc, ◌+◌, ◌-◌, ◌*◌, ◌/◌, ◌%◌, ◌^◌, ◌<◌, ◌≤◌, true, false, cond, eqb, sym, refl, ap, ◌∙◌, subst, ap₂, le_of_suc-le-suc, not-suc-le-zero, mod-lt, mod-eq_of_lt, pow-suc, one-add, arith, lit<}
 use native.Mathlib.Nat.{mod-one, div-eq_of_lt-le}
-use lib.Count.{ones, ones_in, ones_cat, count_leading_zeros, leading_length}
+use lib.Count.{ones, ones_in, ones_cat, ones-le, count_leading_zeros, leading_length}
+use Rattle.std.specs.Int.{bit_at}
 use Rattle.std.proofs.lemmas.Nat.{mod-pow-add, pow_pos}
-use Rattle.std.proofs.lemmas.Bool.{cases_lt, both_ways, cond-true}
+use Rattle.std.proofs.lemmas.Nat.Bits.{bit_at-lt, bit_at_above}
+use Rattle.std.proofs.lemmas.Bool.{both_ways, cond-true}
 use Rattle.points.specs.Sets.{has, member, counted, last_of, size, greatest, is_empty}
 use Rattle.points.specs.declared.set.PointSet.{PointSet}
 use Rattle.points.proofs.Counts.{counted_beyond, last_beyond}
-use Rattle.points.proofs.Digits.{digit, digit_small, digit_beyond}
 use Rattle.points.proofs.Members.{empty_decides, zero_none}
 
 -- ---- the greatest member
@@ -33,7 +34,7 @@ top s = record {
 
     past : (p : ℕ) → 64 - count_leading_zeros 64 s.bits < p → member s p ≡ false
     past zero h = refl
-    past (suc k) h = ap (λ (d : ℕ). eqb d 1) (digit_beyond len.0 s.bits k len.2 (omega (arith, is)))
+    past (suc k) h = ap (λ (d : ℕ). eqb d 1) (bit_at_above s.bits len.0 k len.2 (omega (arith, is)))
 
     at : (k : ℕ) → 64 - count_leading_zeros 64 s.bits ≡ suc k → member s (suc k) ≡ true
     at k e =
@@ -59,11 +60,7 @@ greatest-last s =
 
 -- each member is at most the greatest
 pub member-last : (s : PointSet) (p : ℕ) → member s p ≡ true → p ≤ greatest s
-member-last s p h = go (cases_lt (greatest s) p)
-  where
-    go : (greatest s < p) ⊎ (p ≤ greatest s) → p ≤ greatest s
-    go (inl l) = absurd (both_ways (member s p) ((top s).beyond p l) h)
-    go (inr l) = l
+member-last s p h = let beyond = (top s).beyond p in grind arith
 
 -- the greatest is the least bound of the members
 pub greatest_below : (s : PointSet) (n : ℕ) → ((p : ℕ) → member s p ≡ true → p ≤ n) → greatest s ≤ n
@@ -99,8 +96,8 @@ ones_counted s zero = ap ones (mod-one s.bits) ∙ ones_digit 0 (lit< tt)
 ones_counted s (suc w) =
     ap (λ (j : ℕ). ones (s.bits % 2 ^ j)) (sym (one-add w))
     ∙ ap ones (mod-pow-add s.bits 1 w)
-    ∙ ones_cat w (digit s.bits w) (s.bits % 2 ^ w) (mod-lt s.bits (pow_pos w))
-    ∙ ap₂ (λ (x y : ℕ). x + y) (ones_digit (digit s.bits w) (digit_small s.bits w)) (ones_counted s w)
+    ∙ ones_cat w (bit_at s.bits w) (s.bits % 2 ^ w) (mod-lt s.bits (pow_pos w))
+    ∙ ap₂ (λ (x y : ℕ). x + y) (ones_digit (bit_at s.bits w) (bit_at-lt s.bits w)) (ones_counted s w)
 
 pub size-counted : (s : PointSet) → size s ≡ counted (member s) 64
 unfolding size
@@ -110,3 +107,6 @@ size-counted s =
 
 pub size_ones : (s : PointSet) → ones s.bits ≡ size s
 size_ones s = ap ones (sym (mod-eq_of_lt s.within)) ∙ ones_counted s 64 ∙ sym (size-counted s)
+
+-- what the functions that answer size and greatest are proved by
+pub ruleset sizes = (greatest-last, size_ones, size-counted, ones-le)

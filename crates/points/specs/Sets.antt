@@ -2,7 +2,7 @@
 use Rattle.std.specs.Prelude.{ℕ, zero, suc, ◌+◌, ◌-◌, ◌/◌, ◌%◌, ◌^◌, Bool, false, cond, ◌||◌, ◌==◌, bit_and, bit_or}
 use Rattle.std.proofs.Common.{lt_of_le_of_lt, mod-lt, lit<}
 use Rattle.std.proofs.lemmas.Nat.{or_lt, and_le_l}
-use Rattle.std.specs.Cmp.{IsPartialEquivalence, on_per, partial_equiv_from_equiv, nat_eq_equiv}
+use Rattle.std.specs.Cmp.{IsEquivalence, IsPartialEquivalence, on_equiv, on_per, partial_equiv_from_equiv, nat_eq_equiv}
 use Rattle.std.specs.Int.Count.{count_leading_zeros}
 use Rattle.points.specs.declared.set.PointSet.{PointSet}
 
@@ -62,6 +62,10 @@ same_set a b = a.bits == b.bits
 pub same_set_per : IsPartialEquivalence same_set
 unfolding same_set
 same_set_per = on_per (λ (s : PointSet). s.bits) (partial_equiv_from_equiv nat_eq_equiv)
+
+pub same_set_equivalence : IsEquivalence same_set
+unfolding same_set
+same_set_equivalence = on_equiv (λ (s : PointSet). s.bits) nat_eq_equiv
 
 unfoldable pub greatest : PointSet → ℕ
 greatest s = 64 - count_leading_zeros 64 s.bits

@@ -1,10 +1,10 @@
 ghost use Rattle.std.specs.Prelude.{◌≡◌, ◌≤◌, MatchOption};
 
-// The number of points that a case can have.
+// The number of points that a case can have. Definitions and contracts write 64, where a reader wants the number.
 pub const MOST: u32 = 64;
 
 // A point of a case: a number from 1 to 64.
-#[derive(Clone, Copy)]
+#[derive(Clone, Copy, Debug, PartialEq, Eq)]
 pub struct Point {
     number: u32,
     ghost positive: { 1 ≤ number },
@@ -12,7 +12,8 @@ pub struct Point {
 }
 
 impl Point {
-    // The point of this number, or nothing where the number is not from 1 to 64.
+    // The point of this number, or nothing where the number is not from 1 to 64. No `TryFrom`: a number can fail in one way only, so
+    // an error type would say no more than nothing does.
     pub fn new(number: u32) -> Option<Point>
         ensures { MatchOption result (1 ≤ number → number ≤ 64 → ⊥) (λ p. p.number ≡ number) }
     {
@@ -22,7 +23,7 @@ impl Point {
         Some(Point { number })
     }
 
-    // The number of this point, from 1 to 64.
+    // The number of this point, from 1 to 64: a getter, like `NonZero::get`, and no conversion.
     pub fn number(self) -> u32
         ensures { result ≡ self.number }
     {

@@ -15,18 +15,14 @@ fn main(rt: HostRuntime) -> io::Result<()> {
     // one byte over the limit tells a text that is too long, and nothing after it is read
     let limit = MOST_BYTES as u64 + 1;
     rt.stdin().take(limit).read_to_end(&mut text)?;
-    let mut table = [Clause::of(LiteralSet::empty()); ROWS];
+    // 512 rows are promised for every text, so the table that is lent has a fixed size
+    let mut table = [Clause::from(LiteralSet::empty()); ROWS];
+    // each arm prints lines of its own, so there is no error to hand on by `?`
     match read(text.as_slice(), &mut table) {
         Ok(case) => {
-            let points = case.points();
-            let clauses = case.filed();
-            println!(rt; "c points {points}")?;
-            println!(rt; "c clauses {clauses}")
+            println!(rt; "c points {}", case.points())?;
+            println!(rt; "c clauses {}", case.filed())
         }
-        Err(fault) => {
-            let number = fault.cause.number();
-            let place = fault.place;
-            println!(rt; "c refused {number} at {place}")
-        }
+        Err(fault) => println!(rt; "c {fault}"),
     }
 }

@@ -1,12 +1,14 @@
 -- What is made of signed numbers, by its literals. Assumes nothing.
-use Rattle.std.proofs.Common.{◌≡◌, ℕ, zero, suc, ◌+◌, ◌-◌, ◌<◌, ◌≤◌, Bool, true, false, cond, ◌&&◌, ◌||◌, eqb, leb, ◌⊎◌, List, [], ◌∷◌, ◌++◌, length, get_or, take, ℤ, pos, negsuc, neg_ℤ, is_err, Some, None, Ok, Err, Option, Result, sym, refl, ap, ◌∙◌, subst, ap₂, inl, inr, le_of_suc-le-suc, not-suc-le-zero, arith, take_all, MatchResult}
+use Rattle.std.proofs.Common.{◌≡◌, ℕ, zero, suc, ◌+◌, ◌-◌, ◌<◌, ◌≤◌, Bool, true, false, cond, ◌&&◌, ◌||◌, ◌⊎◌, List, [], ◌∷◌, ◌++◌, length, get_or, take, ℤ, pos, negsuc, neg_ℤ, is_err, Some, None, Ok, Err, Option, Result, sym, refl, ap, ◌∙◌, subst, ap₂, inl, inr, arith, take_all, MatchResult}
 use Rattle.std.proofs.lemmas.List.{take_more}
-use Rattle.std.proofs.lemmas.Bool.{and_parts, and_from, and_left, and_right, or_cases, leb-true, le-leb, eqb-true, cases_Bool, cond-true, cond-false, true≢false}
+use Rattle.std.proofs.Math.Bool.{or-false, or_assoc, and_assoc, and-true}
+use Rattle.std.proofs.lemmas.List.Recursion.{and_fails_at, and_push}
+use Rattle.std.proofs.lemmas.Bool.{both_ways, cond_both, and_parts, and_from, cases_Bool, cond-true, cond-false, true≢false}
 use Rattle.std.proofs.lemmas.Bool.Decides.{nat_tests}
 use Rattle.std.specs.Option.{ok_or}
 use Rattle.points.specs.Sets.{member, none, single, joined, common, is_empty}
 use Rattle.points.specs.declared.set.PointSet.{PointSet}
-use Rattle.points.proofs.Members.{member-none, member-single, member-joined, member-common, member_positive, same_members}
+use Rattle.points.proofs.Members.{member-none, member-single, member-joined, member-common, zero_none, same_members}
 use Rattle.points.proofs.Sizes.{some_member}
 use Rattle.statements.specs.Literals.{names, signed, same_number, listed, clear, bare}
 use Rattle.statements.specs.Making.{is_literal, are_literals, asserted, denied, all_asserted, all_denied, made, extended, make_refusal}
@@ -21,27 +23,13 @@ use Rattle.statements.specs.LiteralLaws.{never_both, clear_none, clear_some, cle
 -- ---- joining sets
 
 pub joined-none : (s : PointSet) → joined s none ≡ s
-joined-none s = same_members (joined s none) s (λ p. member-joined s none p ∙ ap (λ (t : Bool). member s p || t) (member-none p) ∙ or_no (member s p))
-  where
-    or_no : (x : Bool) → (x || false) ≡ x
-    or_no true = refl
-    or_no false = refl
+joined-none s = same_members (joined s none) s (λ p. simp (member-joined, member-none, or-false))
 
 none_joined : (s : PointSet) → joined none s ≡ s
-none_joined s = same_members (joined none s) s (λ p. member-joined none s p ∙ ap (λ (t : Bool). t || member s p) (member-none p))
+none_joined s = same_members (joined none s) s (λ p. simp (member-joined, member-none))
 
 joined_assoc : (s t u : PointSet) → joined (joined s t) u ≡ joined s (joined t u)
-joined_assoc s t u =
-    same_members (joined (joined s t) u) (joined s (joined t u))
-    (λ p.
-    member-joined (joined s t) u p
-    ∙ ap (λ (b : Bool). b || member u p) (member-joined s t p)
-    ∙ or_assoc (member s p) (member t p) (member u p)
-    ∙ sym (member-joined s (joined t u) p ∙ ap (λ (b : Bool). member s p || b) (member-joined t u p)))
-  where
-    or_assoc : (x y z : Bool) → ((x || y) || z) ≡ (x || (y || z))
-    or_assoc true y z = refl
-    or_assoc false y z = refl
+joined_assoc s t u = same_members (joined (joined s t) u) (joined s (joined t u)) (λ p. simp (member-joined, or_assoc))
 
 -- ---- one number more
 
@@ -58,26 +46,17 @@ denied_push (x ∷ zs) z = ap (joined (denied x)) (denied_push zs z) ∙ sym (jo
 pub literals_append : (xs ys : List ℤ) → are_literals (xs ++ ys) ≡ (are_literals xs && are_literals ys)
 unfolding are_literals
 literals_append [] ys = refl
-literals_append (x ∷ xs) ys = ap (λ (t : Bool). is_literal x && t) (literals_append xs ys) ∙ and_assoc (is_literal x) (are_literals xs) (are_literals ys)
-  where
-    and_assoc : (x y z : Bool) → (x && (y && z)) ≡ ((x && y) && z)
-    and_assoc true y z = refl
-    and_assoc false y z = refl
+literals_append (x ∷ xs) ys = ap (λ (t : Bool). is_literal x && t) (literals_append xs ys) ∙ sym (and_assoc (is_literal x) (are_literals xs) (are_literals ys))
 
 -- ---- the points of numbers that stand for literals
 
 pub member-asserted : (z : ℤ) → is_literal z ≡ true → (p : ℕ) → member (asserted z) p ≡ same_number (pos p) z
-member-asserted (pos q) h p = let b = and_parts (leb 1 q) (leb q 64) h in member-single q p (leb-true 1 q b.0) (leb-true q 64 b.1)
+member-asserted (pos q) h p = let m = member-single q p in grind (arith, nat_tests)
 member-asserted (negsuc k) h p = member-none p
 
 pub member-denied : (z : ℤ) → is_literal z ≡ true → (k : ℕ) → member (denied z) (suc k) ≡ same_number (negsuc k) z
 member-denied (pos q) h k = member-none (suc k)
-member-denied (negsuc j) h k =
-    let b = and_parts (leb 1 (suc j)) (leb (suc j) 64) h in
-    member-single (suc j) (suc k) (leb-true 1 (suc j) b.0) (leb-true (suc j) 64 b.1) ∙ same_suc k j
-  where
-    same_suc : (m n : ℕ) → eqb (suc m) (suc n) ≡ eqb m n
-    same_suc m n = grind (arith, nat_tests)
+member-denied (negsuc j) h k = let m = member-single (suc j) (suc k) in grind (arith, nat_tests)
 
 all_asserted_lem : (zs : List ℤ) → are_literals zs ≡ true → (p : ℕ) → member (all_asserted zs) p ≡ listed zs (pos p)
 unfolding are_literals all_asserted listed
@@ -100,7 +79,7 @@ pub data Cleared (y n : PointSet) : Option LiteralSet → Type 0 where
   both : (k : ℕ) → member y (suc k) ≡ true → member n (suc k) ≡ true → Cleared y n None
 
 positive : (y n : PointSet) (p : ℕ) → member y p ≡ true → member n p ≡ true → Cleared y n None
-positive y n zero hy hn = absurd (let l : 1 ≤ 0 = member_positive y 0 hy in omega arith)
+positive y n zero hy hn = absurd (both_ways (member y 0) (zero_none y) hy)
 positive y n (suc k) hy hn = both k hy hn
 
 pub cleared : (y n : PointSet) → Cleared y n (clear y n)
@@ -130,13 +109,9 @@ made_from zs h (both k y n) = (h, (k, sym (all_asserted_lem zs h (suc k)) ∙ y,
 
 pub made_law : (zs : List ℤ) → Made zs (made zs)
 unfolding made
-made_law zs = go (cases_Bool (are_literals zs))
-  where
-    go : (are_literals zs ≡ true) ⊎ (are_literals zs ≡ false) → Made zs (cond (are_literals zs) (ok_or (clear (all_asserted zs) (all_denied zs)) Opposed) (Err Magnitude))
-    go (inl h) =
-        subst (Made zs) (sym (cond-true (are_literals zs) (ok_or (clear (all_asserted zs) (all_denied zs)) Opposed) (Err Magnitude) h))
-        (made_from zs h (cleared (all_asserted zs) (all_denied zs)))
-    go (inr h) = subst (Made zs) (sym (cond-false (are_literals zs) (ok_or (clear (all_asserted zs) (all_denied zs)) Opposed) (Err Magnitude) h)) h
+made_law zs =
+    cond_both (are_literals zs) (ok_or (clear (all_asserted zs) (all_denied zs)) Opposed) (Err Magnitude) (Made zs)
+    (λ h. made_from zs h (cleared (all_asserted zs) (all_denied zs))) (λ h. h)
 
 -- ---- one literal more
 
@@ -147,18 +122,8 @@ Extended s z r = MatchResult r (λ t. (w : ℤ) → names t w ≡ (names s w || 
 was_there : (s : LiteralSet) (z : ℤ) → is_literal z ≡ true → (k : ℕ)
     → (names s (pos (suc k)) || same_number (pos (suc k)) z) ≡ true → (names s (negsuc k) || same_number (negsuc k) z) ≡ true → names s (neg_ℤ z) ≡ true
 was_there s (pos zero) h k y n = absurd (true≢false (sym h))
-was_there s (pos (suc j)) h k y n = go (or_cases (names s (pos (suc k))) (eqb (suc k) (suc j)) y) (or_cases (names s (negsuc k)) false n)
-  where
-    go : (names s (pos (suc k)) ≡ true) ⊎ (eqb (suc k) (suc j) ≡ true) → (names s (negsuc k) ≡ true) ⊎ (false ≡ true) → names s (negsuc j) ≡ true
-    go (inl a) (inl b) = absurd (never_both s (suc k) a b)
-    go (inr e) (inl b) = sym (ap (member s.no) (eqb-true (suc k) (suc j) e)) ∙ b
-    go _ (inr f) = absurd (true≢false (sym f))
-was_there s (negsuc j) h k y n = go (or_cases (names s (pos (suc k))) false y) (or_cases (names s (negsuc k)) (eqb k j) n)
-  where
-    go : (names s (pos (suc k)) ≡ true) ⊎ (false ≡ true) → (names s (negsuc k) ≡ true) ⊎ (eqb k j ≡ true) → names s (pos (suc j)) ≡ true
-    go (inl a) (inl b) = absurd (never_both s (suc k) a b)
-    go (inl a) (inr e) = sym (ap (λ (i : ℕ). member s.yes (suc i)) (eqb-true k j e)) ∙ a
-    go (inr f) _ = absurd (true≢false (sym f))
+was_there s (pos (suc j)) h k y n = let never = never_both s (suc k) in grind (arith, nat_tests)
+was_there s (negsuc j) h k y n = let never = never_both s (suc k) in grind (arith, nat_tests)
 
 module _ (s : LiteralSet) (z : ℤ) (h : is_literal z ≡ true) where
   more_yes : (p : ℕ) → member (joined s.yes (asserted z)) p ≡ (names s (pos p) || same_number (pos p) z)
@@ -183,11 +148,8 @@ module _ (s : LiteralSet) (z : ℤ) (h : is_literal z ≡ true) where
 -- ---- literals of the program
 
 pub literal_number : (l : Literal) → is_literal (signed l) ≡ true
-literal_number (Positive p) = and_from (leb 1 p.number) (leb p.number 64) (le-leb 1 p.number p.positive) (le-leb p.number 64 p.small)
-literal_number (Negative p) =
-    let low : 1 ≤ suc (p.number - 1) = omega arith in
-    let high : suc (p.number - 1) ≤ 64 = omega (arith, p.positive, p.small) in
-    and_from (leb 1 (suc (p.number - 1))) (leb (suc (p.number - 1)) 64) (le-leb 1 (suc (p.number - 1)) low) (le-leb (suc (p.number - 1)) 64 high)
+literal_number (Positive p) = let low = p.positive in let high = p.small in grind (arith, nat_tests)
+literal_number (Negative p) = let low = p.positive in let high = p.small in grind (arith, nat_tests)
 
 pub denied_more : (s : PointSet) (p : Point) → joined s (single p.number) ≡ joined s (denied (signed (Negative p)))
 denied_more s p =
@@ -208,32 +170,19 @@ extended_negative s p =
 -- one number is refused for its magnitude alone
 pub refused_alone : (e : MakeFault) (z : ℤ) → (make_refusal e).1 (z ∷ []) → (e ≡ Magnitude) × (is_literal z ≡ false)
 unfolding are_literals listed
-refused_alone Magnitude z h = (refl, and_no (is_literal z) h)
-  where
-    and_no : (x : Bool) → (x && true) ≡ false → x ≡ false
-    and_no true e = e
-    and_no false e = e
-refused_alone Opposed z (h, (p, y, n)) = absurd (never z y n)
-  where
-    never : (z : ℤ) → (same_number (pos (suc p)) z || false) ≡ true → (same_number (negsuc p) z || false) ≡ true → ⊥
-    never (pos q) y n = true≢false (sym n)
-    never (negsuc k) y n = true≢false (sym y)
+refused_alone Magnitude z h = (refl, sym (and-true (is_literal z)) ∙ h)
+refused_alone Opposed (pos q) (h, (p, y, n)) = absurd (true≢false (sym n))
+refused_alone Opposed (negsuc k) (h, (p, y, n)) = absurd (true≢false (sym y))
 
 pub not_literals : (zs : List ℤ) (i : ℕ) → i < length zs → is_literal (get_or zs i (pos 0)) ≡ false → are_literals zs ≡ false
 unfolding are_literals
-not_literals [] i l h = absurd (not-suc-le-zero l)
-not_literals (z ∷ zs) zero l h = and_left (is_literal z) (are_literals zs) h
-not_literals (z ∷ zs) (suc i) l h = and_right (is_literal z) (are_literals zs) (not_literals zs i (le_of_suc-le-suc l) h)
+not_literals zs i l h = and_fails_at are_literals is_literal refl (λ _ _. refl) zs i (pos 0) l h
 
 -- what the loop has after i numbers
 pub record Sorted (zs : List ℤ) (i : ℕ) (y n : PointSet) : Type 0 where
   pub literals : are_literals (take i zs) ≡ true
   pub yes_is : y ≡ all_asserted (take i zs)
   pub no_is : n ≡ all_denied (take i zs)
-
-pub sorted_none : (zs : List ℤ) (y n : PointSet) → y ≡ none → n ≡ none → Sorted zs 0 y n
-unfolding are_literals all_asserted all_denied
-sorted_none zs y n e f = record { literals = refl; yes_is = e; no_is = f }
 
 pub sorted_more : (zs : List ℤ) (i : ℕ) (y n y' n' : PointSet) (z : ℤ) → i < length zs → get_or zs i (pos 0) ≡ z → is_literal z ≡ true
     → Sorted zs i y n → y' ≡ joined y (asserted z) → n' ≡ joined n (denied z) → Sorted zs (i + 1) y' n'
@@ -243,8 +192,8 @@ sorted_more zs i y n y' n' z l at lit s e f =
     record {
       literals =
           ap are_literals more
-          ∙ literals_append (take i zs) (z ∷ [])
-          ∙ and_from (are_literals (take i zs)) (is_literal z && true) s.literals (and_from (is_literal z) true lit refl);
+          ∙ and_push are_literals is_literal refl (λ _ _. refl) (take i zs) z
+          ∙ and_from (are_literals (take i zs)) (is_literal z) s.literals lit;
       yes_is = e ∙ ap (λ (t : PointSet). joined t (asserted z)) s.yes_is ∙ sym (ap all_asserted more ∙ asserted_push (take i zs) z);
       no_is = f ∙ ap (λ (t : PointSet). joined t (denied z)) s.no_is ∙ sym (ap all_denied more ∙ denied_push (take i zs) z);
     }
@@ -286,7 +235,7 @@ made_refused zs e r g f = ap then_clear (sym g ∙ f) ∙ then_made zs
 -- ---- one number more at a time
 
 ok_or_some : {X E : Type 0} (o : Option X) (e : E) (x : X) → ok_or o e ≡ Ok x → o ≡ Some x
-ok_or_some None e x h = absurd (true≢false (ap is_err h))
+ok_or_some None e x h = cc
 ok_or_some (Some y) e x h = cc
 
 pub record MadeOf (zs : List ℤ) (s : LiteralSet) : Type 0 where
@@ -318,9 +267,22 @@ pub made_push : (zs : List ℤ) (z : ℤ) (s : LiteralSet) → made zs ≡ Ok s 
 unfolding made extended are_literals
 made_push zs z s h lit =
     let m = made_of_numbers zs s h in
-    let all : are_literals (zs ++ z ∷ []) ≡ true =
-    literals_append zs (z ∷ []) ∙ and_from (are_literals zs) (is_literal z && true) m.are (and_from (is_literal z) true lit refl) in
+    let all : are_literals (zs ++ z ∷ []) ≡ true = and_push are_literals is_literal refl (λ _ _. refl) zs z ∙ and_from (are_literals zs) (is_literal z) m.are lit in
     cond-true (are_literals (zs ++ z ∷ [])) (ok_or (clear (all_asserted (zs ++ z ∷ [])) (all_denied (zs ++ z ∷ []))) Opposed) (Err Magnitude) all
     ∙ ap₂ (λ (y n : PointSet). ok_or (clear y n) Opposed)
     (asserted_push zs z ∙ ap (λ (t : PointSet). joined t (asserted z)) (sym m.yes_is))
     (denied_push zs z ∙ ap (λ (t : PointSet). joined t (denied z)) (sym m.no_is))
+
+-- ---- what the functions `make`, `with` and `sorted` are proved by
+
+pub made_as : (zs : List ℤ) (r : Result LiteralSet MakeFault) → r ≡ made zs → Made zs r
+made_as zs r e = subst (Made zs) (sym e) (made_law zs)
+
+pub extended_as : (s : LiteralSet) (l : Literal) (r : Result LiteralSet MakeFault) → r ≡ extended s (signed l) → Extended s (signed l) r
+extended_as s l r e = subst (Extended s (signed l)) (sym e) (extended_law s (signed l) (literal_number l))
+
+pub ruleset makes = (made_sorted, made_refused, made_as)
+
+pub ruleset extends = (extended_positive, extended_negative, extended_as)
+
+pub ruleset sorting = (refused_alone, not_literals)

@@ -1,13 +1,15 @@
 -- Sets of literals by their literals. Assumes nothing.
-use Rattle.std.specs.Prelude.{◌≡◌, ℕ, Bool, true, false, Some, None, Option, ◌≢◌, refl}
+use Rattle.std.specs.Prelude.{◌≡◌, ℕ, zero, suc, ℤ, pos, negsuc, Decides, Bool, true, false, Some, None, ◌≢◌, refl}
 use Rattle.std.proofs.Common.{sym, ap, ◌∙◌}
 use Rattle.std.proofs.Math.Bool.{Bool-set}
 use mathlib.Core.HLevel.{is_prop→PathP}
 use Rattle.std.proofs.lemmas.Bool.{both_ways, and_from, true≢false}
-use Rattle.points.specs.Sets.{member, common, is_empty}
+use Rattle.std.proofs.lemmas.Bool.Decides.{Decides-and, Decides-like}
+use Rattle.std.proofs.lemmas.Option.{none-some, same_Some}
+use Rattle.points.specs.Sets.{member, common, is_empty, subset}
 use Rattle.points.specs.declared.set.PointSet.{PointSet}
-use Rattle.points.proofs.Members.{member-common, empty_decides}
-use Rattle.statements.specs.Literals.{clear, clear_by}
+use Rattle.points.proofs.Members.{member-common, empty_decides, subset_decides, zero_none}
+use Rattle.statements.specs.Literals.{names, within, clear, clear_by}
 use Rattle.statements.specs.declared.literals.LiteralSet.{LiteralSet}
 
 -- a set of literals is told by its two sets of points
@@ -25,24 +27,32 @@ never_both s p y n =
     both_ways (member (common s.yes s.no) p) ((empty_decides (common s.yes s.no)).0 s.apart p)
     (member-common s.yes s.no p ∙ and_from (member s.yes p) (member s.no p) y n)
 
+-- ---- whether each literal of the one is in the other
+
+pub within_decides : (s t : LiteralSet) → Decides (within s t) ((z : ℤ) → names s z ≡ true → names t z ≡ true)
+within_decides s t =
+    Decides-like (within s t) to from
+    (Decides-and (subset s.yes t.yes) (subset s.no t.no) (subset_decides s.yes t.yes) (subset_decides s.no t.no))
+  where
+    to : ((p : ℕ) → member s.yes p ≡ true → member t.yes p ≡ true) × ((p : ℕ) → member s.no p ≡ true → member t.no p ≡ true)
+        → (z : ℤ) → names s z ≡ true → names t z ≡ true
+    to (y, n) (pos p) h = y p h
+    to (y, n) (negsuc k) h = n (suc k) h
+
+    from : ((z : ℤ) → names s z ≡ true → names t z ≡ true)
+        → ((p : ℕ) → member s.yes p ≡ true → member t.yes p ≡ true) × ((p : ℕ) → member s.no p ≡ true → member t.no p ≡ true)
+    from f = (λ p. f (pos p), denied)
+      where
+        denied : (p : ℕ) → member s.no p ≡ true → member t.no p ≡ true
+        denied zero h = absurd (both_ways (member s.no 0) (zero_none s.no) h)
+        denied (suc k) h = f (negsuc k) h
+
 -- ---- what `clear` gives
 
 clear_by_lem : (y n : PointSet) (b : Bool) (e : is_empty (common y n) ≡ b) (s : LiteralSet) → clear_by y n b e ≡ Some s → (s.yes ≡ y) × (s.no ≡ n)
 unfolding clear_by
-clear_by_lem y n true e s h = (sym (ap left h), sym (ap right h))
-  where
-    left : Option LiteralSet → PointSet
-    left None = y
-    left (Some t) = t.yes
-
-    right : Option LiteralSet → PointSet
-    right None = n
-    right (Some t) = t.no
-clear_by_lem y n false e s h = absurd (true≢false (ap some h))
-  where
-    some : Option LiteralSet → Bool
-    some None = true
-    some (Some t) = false
+clear_by_lem y n true e s h = let same = same_Some _ s h in (sym (ap (λ (t : LiteralSet). t.yes) same), sym (ap (λ (t : LiteralSet). t.no) same))
+clear_by_lem y n false e s h = absurd (none-some s h)
 
 -- a set that it gives has just these points
 pub clear_parts : (y n : PointSet) (s : LiteralSet) → clear y n ≡ Some s → (s.yes ≡ y) × (s.no ≡ n)

@@ -8,14 +8,14 @@ ghost use Rattle.points.specs.Sets.{common, is_empty};
 use points::{Point, PointSet};
 
 // A point, or its denial.
-#[derive(Clone, Copy)]
+#[derive(Clone, Copy, Debug, PartialEq, Eq)]
 pub enum Literal {
     Positive(Point),
     Negative(Point),
 }
 
 // A set of literals that names no point both ways.
-#[derive(Clone, Copy)]
+#[derive(Clone, Copy, Debug, PartialEq, Eq)]
 pub struct LiteralSet {
     // the points that stand in it as they are
     pub(crate) yes: PointSet,

@@ -9,21 +9,20 @@ pub trait Statement: Copy {
     // The number of the kind, from 0 to 63, which its refutations carry.
     const KIND: u32;
 
+    // The same number, as clauses and laws name it.
+    ghost KIND: { ℕ };
+
     // What the kind answers.
     ghost kind: { Kind Self };
 
     // What a statement means: the set of the assignments that fit it.
     ghost fits: { Self → (ℕ → Bool) → Type 0 };
 
-    // The number of the kind: a clause of generic code cannot name the constant.
-    fn kind_number() -> u32
-        ensures { result ≡ kind.core.number };
-
     // How many points the statement names.
     fn length(&self) -> u32
         ensures { result ≡ kind.length self.now };
 
-    // The greatest point named, or 0.
+    // The greatest point named, or 0, which lies below each point: an `Option` would make two cases of every bound on it.
     fn last(&self) -> u32
         ensures { result ≡ kind.core.last self.now };
 
@@ -48,4 +47,7 @@ pub trait Statement: Copy {
 
     // The laws that settling rests on besides.
     ghost exact: { Exact kind fits };
+
+    // The number is that of the kind.
+    ghost numbered: { KIND ≡ kind.core.number };
 }

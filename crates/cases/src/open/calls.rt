@@ -5,6 +5,7 @@ ghost use Rattle.cases.specs.declared.fault.FileFault.TheVariants.{Beyond};
 
 use super::OpenCase;
 use crate::fault::{FileFault, OpenFault};
+use points::Point;
 use statements::Statement;
 
 // How many rows of a filing table are used at the most.
@@ -15,11 +16,10 @@ impl OpenCase {
     pub fn open(points: u32) -> Result<OpenCase, OpenFault>
         ensures { MatchResult result (Opened points) (λ e. (open_refusal e).1 points) }
     {
-        if points == 0 || points > 64 {
-            return Err(OpenFault::Points);
-        }
+        // the last point of the case
+        let last = Point::new(points).ok_or(OpenFault::Points)?;
         Ok(OpenCase {
-            points,
+            points: last.number(),
             filed: 0,
             noted: None,
         })
@@ -35,8 +35,9 @@ impl OpenCase {
         Ok(())
     }
 
-    // Files the statement in the next row of the table, and answers its number. Refused where its last point is beyond those of
-    // the case, and else where no usable row is left; a refusal changes nothing.
+    // Files the statement in the next row of the table, and answers its number. Refused where its last point is beyond those of the
+    // case, and else where no usable row is left; a refusal changes nothing. The table is lent at each call, and not held, since a case
+    // lives longer than one call.
     pub fn file<S: Statement>(&mut self, table: &mut [S], statement: S) -> Result<usize, FileFault>
         ensures { Files S.kind.core self.old table.old statement self.new table.new result }
     {

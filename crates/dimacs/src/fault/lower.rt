@@ -1,4 +1,5 @@
-// The faults of the layers below, carried whole.
+// The faults of the layers below, carried whole. Written by hand: a derived `From` does not say which cause it makes, and the contract
+// of `read` rests on that.
 ghost use Rattle.std.specs.Prelude.{◌≡◌};
 ghost use Rattle.dimacs.specs.declared.fault.Cause.TheVariants.{Open, Make, File};
 

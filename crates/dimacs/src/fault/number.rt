@@ -4,7 +4,7 @@ ghost use Rattle.dimacs.specs.Reading.{cause_number};
 use super::Cause;
 
 impl Cause {
-    // The number of the refusal.
+    // The number of the refusal. A match, since a cause that carries a lower fault has no number of its own to cast.
     pub fn number(self) -> u32
         ensures { result ≡ cause_number self }
     {

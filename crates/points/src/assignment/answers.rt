@@ -7,7 +7,7 @@ use crate::point::Point;
 use crate::set::PointSet;
 
 impl Assignment {
-    // Yes to these points, and no to every other.
+    // Yes to these points, and no to every other. No `From`, which would not say what the points are.
     pub fn new(yes: PointSet) -> Assignment
         ensures { (p : ℕ) → says result p ≡ member yes p }
     {
@@ -19,7 +19,7 @@ impl Assignment {
         ensures { (p : ℕ) → says result p ≡ (says self p || p == point.number) }
     {
         Assignment {
-            yes: self.yes.union(PointSet::of(point)),
+            yes: self.yes.union(PointSet::from(point)),
         }
     }
 
@@ -30,7 +30,7 @@ impl Assignment {
         self.yes.contains(point)
     }
 
-    // The points whose answer is yes.
+    // The points whose answer is yes: a getter, and no conversion.
     pub fn yes_points(self) -> PointSet
         ensures { result ≡ self.yes }
     {

@@ -6,7 +6,8 @@ use super::PointSet;
 use crate::point::Point;
 
 impl PointSet {
-    // The set of no points.
+    // The set of no points. No `Default`, which would not say that it is empty.
+    #[tactic(auto, using(crate::proofs::Members::members), unfolding(crate::specs::Sets::member, crate::specs::Sets::none))]
     pub fn empty() -> PointSet
         ensures value { result ≡ none }
         ensures members { (p : ℕ) → member result p ≡ false }
@@ -14,17 +15,8 @@ impl PointSet {
         PointSet { bits: 0 }
     }
 
-    // The set of one point.
-    pub fn of(point: Point) -> PointSet
-        ensures value { result ≡ single point.number }
-        ensures members { (p : ℕ) → member result p ≡ (p == point.number) }
-    {
-        PointSet {
-            bits: 1 << (point.number() - 1),
-        }
-    }
-
     // The points of either set.
+    #[tactic(auto, using(crate::proofs::Members::members), unfolding(crate::specs::Sets::member, crate::specs::Sets::joined))]
     pub fn union(self, other: PointSet) -> PointSet
         ensures value { result ≡ joined self other }
         ensures members { (p : ℕ) → member result p ≡ (member self p || member other p) }
@@ -35,6 +27,7 @@ impl PointSet {
     }
 
     // The points of both sets.
+    #[tactic(auto, using(crate::proofs::Members::members), unfolding(crate::specs::Sets::member, crate::specs::Sets::common))]
     pub fn intersection(self, other: PointSet) -> PointSet
         ensures value { result ≡ common self other }
         ensures members { (p : ℕ) → member result p ≡ (member self p && member other p) }
@@ -45,6 +38,7 @@ impl PointSet {
     }
 
     // The points of this set that the other lacks.
+    #[tactic(auto, using(crate::proofs::Members::members), unfolding(crate::specs::Sets::member, crate::specs::Sets::without))]
     pub fn difference(self, other: PointSet) -> PointSet
         ensures value { result ≡ without self other }
         ensures members { (p : ℕ) → member result p ≡ (member self p && not (member other p)) }
@@ -58,13 +52,28 @@ impl PointSet {
     pub fn with(self, point: Point) -> PointSet
         ensures { result ≡ joined self (single point.number) }
     {
-        self.union(PointSet::of(point))
+        self.union(PointSet::from(point))
     }
 
     // This set without one point.
     pub fn without(self, point: Point) -> PointSet
         ensures { result ≡ without self (single point.number) }
     {
-        self.difference(PointSet::of(point))
+        self.difference(PointSet::from(point))
+    }
+}
+
+// The set of one point.
+impl From<Point> for PointSet {
+    ghost from_gives = { λ p s. s ≡ single p.number };
+
+    #[tactic(auto, using(crate::proofs::Members::members))]
+    fn from(point: Point) -> PointSet
+        ensures value { result ≡ single point.number }
+        ensures members { (p : ℕ) → member result p ≡ (p == point.number) }
+    {
+        PointSet {
+            bits: 1 << (point.number() - 1),
+        }
     }
 }

@@ -1,22 +1,15 @@
-ghost use Rattle.std.specs.Prelude.{◌≡◌};
-ghost use Rattle.statements.specs.Clauses.{clause_kind, named, Fits};
+ghost use Rattle.std.specs.Prelude.{refl};
+ghost use Rattle.statements.specs.Clauses.{clause_kind, Fits};
 ghost use Rattle.statements.specs.ClauseLaws.{clause_sound, clause_exact};
 
 use super::Clause;
 use crate::statement::Statement;
-use points::{Assignment, Point, PointSet};
-
-impl Clause {
-    // The points that the clause names, either way.
-    fn named(&self) -> PointSet
-        ensures { result ≡ named self.now }
-    {
-        self.literals.yes.union(self.literals.no)
-    }
-}
+use points::{Assignment, Point};
 
 impl Statement for Clause {
     const KIND: u32 = 1;
+
+    ghost KIND = { 1 };
 
     ghost kind = { clause_kind };
 
@@ -26,35 +19,28 @@ impl Statement for Clause {
 
     ghost exact = { clause_exact };
 
-    fn kind_number() -> u32 {
-        Self::KIND
-    }
+    ghost numbered = { refl };
 
     fn length(&self) -> u32 {
-        self.named().size()
+        self.literals.named().size()
     }
 
     fn last(&self) -> u32 {
-        self.named().greatest()
+        self.literals.named().greatest()
     }
 
+    #[tactic(auto, using(crate::specs::ClauseLaws::holds_set))]
     fn holds(&self, assignment: &Assignment) -> bool {
-        let yes = assignment.yes_points();
-        let satisfied = self
-            .literals
-            .yes
-            .intersection(yes)
-            .union(self.literals.no.difference(yes));
+        let satisfied = self.literals.true_points(assignment);
         !satisfied.is_empty()
     }
 
     fn impossible(&self) -> bool {
-        self.named().is_empty()
+        self.literals.named().is_empty()
     }
 
     fn covers(&self, other: &Clause) -> bool {
-        self.literals.yes.is_subset(other.literals.yes)
-            && self.literals.no.is_subset(other.literals.no)
+        self.literals.is_subset(other.literals)
     }
 
     fn combine(&self, other: &Clause, point: Point) -> Option<Clause> {

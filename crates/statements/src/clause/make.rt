@@ -7,20 +7,22 @@ use super::Clause;
 use crate::fault::MakeFault;
 use crate::literals::LiteralSet;
 
-impl Clause {
-    // The clause of these literals.
-    pub fn of(literals: LiteralSet) -> Clause
-        ensures { result.literals ≡ literals }
-    {
+// The clause of these literals.
+impl From<LiteralSet> for Clause {
+    ghost from_gives = { λ s c. c.literals ≡ s };
+
+    fn from(literals: LiteralSet) -> Clause {
         Clause { literals }
     }
+}
 
+impl Clause {
     // The clause of the literals that the numbers stand for. Refused where the magnitude of one of them is not from 1 to 64, and
-    // else where a point is named both ways.
+    // else where a point is named both ways. No `TryFrom`, as for `LiteralSet::make`.
     pub fn make(numbers: &[i32]) -> Result<Clause, MakeFault>
         ensures value { result ≡ as_clause (made numbers.now) }
         ensures literals { MatchResult result (λ c. (z : ℤ) → names c.literals z ≡ listed numbers.now z) (λ e. (make_refusal e).1 numbers.now) }
     {
-        Ok(Clause::of(LiteralSet::make(numbers)?))
+        Ok(Clause::from(LiteralSet::make(numbers)?))
     }
 }

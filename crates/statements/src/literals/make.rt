@@ -9,26 +9,26 @@ use super::{Literal, LiteralSet};
 use crate::fault::MakeFault;
 use points::{Point, PointSet};
 
-impl Literal {
-    // The literal that a signed number stands for; refused where the magnitude is not from 1 to 64.
-    pub fn new(number: i32) -> Result<Literal, MakeFault>
-        ensures { MatchResult result (λ l. signed l ≡ number) (λ e. (make_refusal e).1 (number ∷ [])) }
-    {
-        match Point::new(number.unsigned_abs()) {
-            None => Err(MakeFault::Magnitude),
-            Some(point) => {
-                if number < 0 {
-                    Ok(Literal::Negative(point))
-                } else {
-                    Ok(Literal::Positive(point))
-                }
-            }
+// The literal that a signed number stands for; refused where the magnitude is not from 1 to 64.
+impl TryFrom<i32> for Literal {
+    type Error = MakeFault;
+
+    ghost try_from_gives = { λ n r. MatchResult r (λ l. signed l ≡ n) (λ e. (make_refusal e).1 (n ∷ [])) };
+
+    #[tactic(auto, unfolding(crate::specs::Making::are_literals))]
+    fn try_from(number: i32) -> Result<Literal, MakeFault> {
+        let point = Point::new(number.unsigned_abs()).ok_or(MakeFault::Magnitude)?;
+        if number < 0 {
+            Ok(Literal::Negative(point))
+        } else {
+            Ok(Literal::Positive(point))
         }
     }
 }
 
 impl LiteralSet {
-    // The set of no literals.
+    // The set of no literals. No `Default`, as for sets of points.
+    #[tactic(auto, using(crate::specs::LiteralLaws::same_literals), unfolding(crate::specs::Literals::bare))]
     pub fn empty() -> LiteralSet
         ensures { result ≡ bare }
     {
@@ -40,6 +40,7 @@ impl LiteralSet {
     }
 
     // The set of these literals, or nothing where a point is named both ways.
+    #[tactic(auto, using(crate::specs::LiteralLaws::clear_none))]
     pub(crate) fn of(yes: PointSet, no: PointSet) -> Option<LiteralSet>
         ensures { result ≡ clear yes no }
     {
@@ -60,6 +61,7 @@ impl LiteralSet {
     }
 
     // All literals of the two sets but those on the point, or nothing where a point would be named both ways.
+    #[tactic(auto, using(crate::proofs::PairLaws::resolved_as))]
     pub fn resolvent(self, other: LiteralSet, point: Point) -> Option<LiteralSet>
         ensures value { result ≡ resolvent self other point.number }
         ensures literals { MatchOption result ((q : ℕ) × (q ≢ point.number) × (opposed self other q ≡ true)) (λ s. (z : ℤ) → names s z ≡ ((names self z || names other z) && not (point_of z == point.number))) }
@@ -70,6 +72,7 @@ impl LiteralSet {
     }
 
     // This set with one more literal; refused where its denial is in the set.
+    #[tactic(auto, using(crate::proofs::MakeLaws::extends))]
     pub fn with(self, literal: Literal) -> Result<LiteralSet, MakeFault>
         ensures value { result ≡ extended self (signed literal) }
         ensures literals { MatchResult result (λ s. (z : ℤ) → names s z ≡ (names self z || same_number z (signed literal))) (λ e. (e ≡ Opposed) × (names self (neg_ℤ (signed literal)) ≡ true)) }
@@ -81,8 +84,9 @@ impl LiteralSet {
         extended.ok_or(MakeFault::Opposed)
     }
 
-    // The set of the literals that the numbers stand for. Refused where the magnitude of one of them is not from 1 to 64, and
-    // else where a point is named both ways.
+    // The set of the literals that the numbers stand for. Refused where the magnitude of one of them is not from 1 to 64, and else
+    // where a point is named both ways. No `TryFrom`, for which a caller would have to turn an array into a slice by hand.
+    #[tactic(auto, using(crate::proofs::MakeLaws::makes))]
     pub fn make(numbers: &[i32]) -> Result<LiteralSet, MakeFault>
         ensures value { result ≡ made numbers.now }
         ensures literals { MatchResult result (λ s. (z : ℤ) → names s z ≡ listed numbers.now z) (λ e. (make_refusal e).1 numbers.now) }
@@ -93,13 +97,14 @@ impl LiteralSet {
 }
 
 // The points that the numbers name as they are, and the points that they deny.
+#[tactic(auto, using(crate::proofs::MakeLaws::sorting), unfolding(crate::specs::Making::are_literals, crate::specs::Making::all_asserted, crate::specs::Making::all_denied))]
 fn sorted(numbers: &[i32]) -> Result<(PointSet, PointSet), MakeFault>
     ensures { result ≡ (if are_literals numbers.now then Ok (all_asserted numbers.now, all_denied numbers.now) else Err Magnitude) }
 {
     let mut yes = PointSet::empty();
     let mut no = PointSet::empty();
     for number in numbers {
-        match Literal::new(*number)? {
+        match Literal::try_from(*number)? {
             Literal::Positive(point) => yes = yes.with(point),
             Literal::Negative(point) => no = no.with(point),
         }

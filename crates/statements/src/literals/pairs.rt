@@ -8,6 +8,7 @@ use points::PointSet;
 
 impl LiteralSet {
     // Whether each literal of this set is in the other.
+    #[tactic(auto, using(std::proofs::lemmas::Bool::Decides::nat_tests))]
     pub fn is_subset(self, other: LiteralSet) -> bool
         ensures value { result ≡ within self other }
         ensures literals { Decides result ((z : ℤ) → names self z ≡ true → names other z ≡ true) }
@@ -25,6 +26,7 @@ impl LiteralSet {
     }
 
     // All literals of the two sets but those on the points that the two name oppositely.
+    #[tactic(auto, using(crate::proofs::PairLaws::cancels), unfolding(crate::specs::Literals::cancelled))]
     pub fn cancelled(self, other: LiteralSet) -> LiteralSet
         ensures value { result ≡ cancelled self other }
         ensures literals { (z : ℤ) → names result z ≡ ((names self z || names other z) && not (opposed self other (point_of z))) }

@@ -1,78 +1,118 @@
-use Rattle.std.proofs.Common.{◌≡◌, ℕ, ◌+◌, ◌≤◌, List, [], length, drop, Err, sym, refl, ap, ◌∙◌, subst, arith}
+use Rattle.std.proofs.Common.{◌≡◌, ℕ, ◌+◌, ◌≤◌, Bool, false, nat_lt, List, [], length, drop, Err, Result, sym, ap, ap₂, ◌∙◌, subst, arith, Some, rules}
 use Rattle.std.proofs.lemmas.Bool.{ltb-true, ltb-false}
-use Rattle.cases.specs.Refusals.{open_refusal}
-use Rattle.cases.specs.declared.fault.OpenFault.{OpenFault}
+use Rattle.std.proofs.lemmas.Result.{err_from_is_err_and}
 use Rattle.cases.specs.declared.fault.OpenFault.TheVariants.{Points}
-use Rattle.lexer.specs.Text.{tokens_from}
+use Rattle.cases.specs.declared.open.OpenCase.{OpenCase}
+use Rattle.lexer.specs.Cuts.{part}
+use Rattle.lexer.specs.Headers.{header_of, HeaderAt}
+use Rattle.lexer.specs.Parts.{words_left}
+use Rattle.lexer.specs.Text.{Piece, tokens_from}
+use Rattle.lexer.specs.declared.headers.Header.{Header}
+use Rattle.lexer.proofs.Tokens.{tokens_words}
 use Rattle.statements.specs.declared.clause.Clause.{Clause}
 use Rattle.dimacs.specs.Denoting.{Reads}
 use Rattle.dimacs.specs.Reading.{Reading, refused, begun, body, reading, over}
 use Rattle.dimacs.specs.Steps.{Answers}
 use Rattle.dimacs.specs.declared.fault.Cause.{Cause}
 use Rattle.dimacs.specs.declared.fault.Cause.TheVariants.{Long, Header as BadHeader, Open}
+use Rattle.dimacs.specs.declared.fault.Fault.{Fault}
 use Rattle.dimacs.proofs.AcceptLaws.{judged}
-use Rattle.dimacs.proofs.PlainLaws.{reads_back, example}
+use Rattle.dimacs.proofs.Handed.{handed}
 use Rattle.dimacs.proofs.ReadLaws.{reading_long, reading_comments, reading_bad, reading_points, reading_body}
 use Rattle.dimacs.proofs.reader.read.Goals as goal
 
 -- a refusal that files nothing
-refusal : (text : List ℕ) (table : List Clause) (e : Cause) (at : ℕ) → reading (length table) text ≡ refused [] e at
-    → Reads text table table (Err (record { cause = e; place = at }))
-refusal text table e at is =
-    let answer = ap (λ (x : Reading). x.answer) is in
+refusal : (text : List ℕ) (table : List Clause) (e : Cause) (at : ℕ) (r : Result OpenCase Fault)
+    → reading (length table) text ≡ refused [] e at → r ≡ Err (record { cause = e; place = at }) → Reads text table table r
+refusal text table e at r is err =
+    subst (Reads text table table) (sym err)
+    (let answer = ap (λ (x : Reading). x.answer) is in
     let rows : table ≡ over (reading (length table) text).clauses table = sym (ap (λ (x : Reading). over x.clauses table) is) in
-    record { answer = answer; judged = judged (length table) text table table (Err (record { cause = e; place = at })) answer rows; rows = rows }
+    record { answer = answer; judged = judged (length table) text table table (Err (record { cause = e; place = at })) answer rows; rows = rows })
 
-pub returns-then-is_too_long : goal.returns-then-is_too_long
-returns-then-is_too_long c =
-    let e = reading_long (length c.args.table.now) c.args.text.now (ltb-true 16384 (length c.args.text.now) (sym c.is_too_long.ensures ∙ c.if-is_too_long.true)) in
-    record { reads = refusal c.args.text.now c.args.table.now Long 16384 e; back = reads_back; example = example }
+pub returns-then-is_too_long-clause-reads : goal.returns-then-is_too_long-clause-reads
+returns-then-is_too_long-clause-reads c =
+    refusal c.args.text.now c.args.table.now Long 16384 _
+    (reading_long (length c.args.table.now) c.args.text.now (ltb-true 16384 (length c.args.text.now) (sym c.is_too_long.ensures ∙ c.if-is_too_long.true)))
+    (ap Err c.at.ensures)
 
-pub returns-in_default : goal.returns-in_default
-returns-in_default c =
-    let e = reading_comments (length c.args.table.now) c.args.text.now (ltb-false 16384 (length c.args.text.now) (sym c.is_too_long.ensures ∙ c.if-is_too_long.false)) c.in_default.ensures in
-    record { reads = refusal c.args.text.now c.args.table.now BadHeader (length c.args.text.now) e; back = reads_back; example = example }
+-- a text that is not too long
+short : (text : List ℕ) (b : Bool) → b ≡ nat_lt 16384 (length text) → b ≡ false → length text ≤ 16384
+short text b is fits = ltb-false 16384 (length text) (sym is ∙ fits)
 
-pub returns-in_default-parse : goal.returns-in_default-parse
-returns-in_default-parse c =
-    let e =
-    reading_bad (length c.args.table.now) c.args.text.now (ltb-false 16384 (length c.args.text.now) (sym c.is_too_long.ensures ∙ c.if-is_too_long.false)) c.in-Some.field-0.start c.in-Some.field-0.end c.in-Some.ensures
-    (sym c.in_default-parse.ensures.value) in
-    record { reads = refusal c.args.text.now c.args.table.now BadHeader c.in-Some.field-0.start e; back = reads_back; example = example }
+pub returns-in_err-line-clause-reads : goal.returns-in_err-line-clause-reads
+returns-in_err-line-clause-reads c =
+    let none = c.in_err-line.ensures.ok_part in
+    refusal c.args.text.now c.args.table.now BadHeader (length c.args.text.now) _
+    (reading_comments (length c.args.table.now) c.args.text.now (short _ _ c.is_too_long.ensures c.if-is_too_long.false) (rw none at c.header_line.ensures).line)
+    (handed _ _ _ _ c.from_residual.ensures.1 c.in_err-line.ensures.value none ∙ ap Err c.at-2.ensures)
 
-pub returns-in-Ok : goal.returns-in-Ok
-returns-in-Ok c =
+pub returns-in_err-header-clause-reads : goal.returns-in_err-header-clause-reads
+returns-in_err-header-clause-reads c =
+    let line = c.in_ok-line.line in
+    let stands = rw c.in_ok-line.ensures.ok_part at c.header_line.ensures in
+    let none = c.in_err-header.ensures.ok_part in
+    refusal c.args.text.now c.args.table.now BadHeader line.start _
+    (reading_bad (length c.args.table.now) c.args.text.now (short _ _ c.is_too_long.ensures c.if-is_too_long.false) line.start (line.start + length line.bytes.now)
+    stands.line (ap header_of (sym stands.bytes) ∙ sym c.parse.ensures.value ∙ none))
+    (handed _ _ _ _ c.from_residual-in_err-header.ensures.1 c.in_err-header.ensures.value none ∙ ap Err c.at-3.ensures)
+
+pub returns-in_err-case-clause-reads : goal.returns-in_err-case-clause-reads
+returns-in_err-case-clause-reads c =
+    let line = c.in_ok-line.line in
+    let stands = rw c.in_ok-line.ensures.ok_part at c.header_line.ensures in
+    let d = c.in_ok-header.header in
+    let why = c.in_err-case.ensures in
+    let p = err_from_is_err_and c.from_residual-in_err-case.result c.from_residual-in_err-case.ensures.1 in
+    refusal c.args.text.now c.args.table.now (Open Points) (line.start + d.points_at) _
+    (reading_points (length c.args.table.now) c.args.text.now (short _ _ c.is_too_long.ensures c.if-is_too_long.false) line.start (line.start + length line.bytes.now)
+    stands.line d (ap header_of (sym stands.bytes) ∙ sym c.parse.ensures.value ∙ c.in_ok-header.ensures.ok_part) why.1)
+    (p.1 ∙ ap Err (p.2 ∙ why.0))
+
+-- the definition at a text whose header line is right, from its tokens on
+whole : (rows : ℕ) (text : List ℕ) → length text ≤ 16384 → (start end : ℕ) → HeaderAt text start end → (d : Header) → header_of (part start end text) ≡ Some d
+    → (case : OpenCase) → case.points ≡ d.points → (tokens : List Piece) → tokens ≡ tokens_from end (drop end text)
+    → body case.points d.clauses rows (length text) tokens begun ≡ reading rows text
+whole rows text few start end stands d says case points tokens left =
+    ap₂ (λ (n : ℕ) (ts : List Piece). body n d.clauses rows (length text) ts begun) points left
+    ∙ sym (reading_body rows text few start end stands d says (omega (arith, points, case.some)) (omega (arith, points, case.few)))
+
+-- what is read, where the definition says the same as these
+reads : (text : List ℕ) (table after : List Clause) (r : Result OpenCase Fault) (says : Reading) → says ≡ reading (length table) text
+    → Answers says r → after ≡ over says.clauses table → Reads text table after r
+reads text table after r says is a rows =
+    let answer = subst (λ (x : Reading). Answers x r) is a in
+    let left = rows ∙ ap (λ (x : Reading). over x.clauses table) is in
+    record { answer = answer; judged = judged (length table) text table after r answer left; rows = left }
+
+pub returns-in_err-tokens-clause-reads : goal.returns-in_err-tokens-clause-reads
+returns-in_err-tokens-clause-reads c =
     let table = c.args.table.now in
     let text = c.args.text.now in
-    let d = c.in-Some-parse.header in
-    let case = c.in-Ok.case in
-    let points = c.in-Ok.ensures.points_are in
-    let start = c.in-Some.field-0.start in
-    let end = c.in-Some.field-0.end in
-    let e : body case.points d.clauses (length table) (length text) (tokens_from end (drop end text)) begun ≡ reading (length table) text =
-    ap (λ (n : ℕ). body n d.clauses (length table) (length text) (tokens_from end (drop end text)) begun) points
-    ∙ sym
-    (reading_body (length table) text (ltb-false 16384 (length c.args.text.now) (sym c.is_too_long.ensures ∙ c.if-is_too_long.false)) start end c.in-Some.ensures d (sym c.in-Some-parse.ensures.value)
-    (omega (arith, points, case.some)) (omega (arith, points, case.few))) in
-    let answer = subst (λ (x : Reading). Answers x c.read_body.result) e c.read_body.ensures.answer in
-    let rows = c.read_body.ensures.rows ∙ ap (λ (x : Reading). over x.clauses table) e in
-    let reads : Reads text table c.read_body.new.table c.read_body.result =
-    record { answer = answer; judged = judged (length table) text table c.read_body.new.table c.read_body.result answer rows; rows = rows } in
-    record { reads = reads; back = reads_back; example = example }
+    let line = c.in_ok-line.line in
+    let d = c.in_ok-header.header in
+    let case = c.in_ok-case.case in
+    let stands = rw c.in_ok-line.ensures.ok_part at c.header_line.ensures in
+    let end = line.start + length line.bytes.now in
+    let walks = c.in_err-tokens.ensures (length text) in
+    reads text table _ _ (body case.points d.clauses (length table) (length text) (words_left c.new.result) begun)
+    (whole (length table) text (short _ _ c.is_too_long.ensures c.if-is_too_long.false) line.start end stands.line d
+    (ap header_of (sym stands.bytes) ∙ sym c.parse.ensures.value ∙ c.in_ok-header.ensures.ok_part) case c.in_ok-case.ensures.points_are _
+    (c.new.ensures.left ∙ sym (tokens_words c.end.result (drop c.end.result text)) ∙ ap (λ (k : ℕ). tokens_from k (drop k text)) c.end.ensures))
+    (search rules) (search rules)
 
--- an opening is refused for the number of points alone
-refused-points : (e : OpenFault) (n : ℕ) → (open_refusal e).1 n → (e ≡ Points) × (1 ≤ n → n ≤ 64 → ⊥)
-refused-points Points n h = (refl, h)
-
-pub returns-in-Err : goal.returns-in-Err
-returns-in-Err c =
-    let d = c.in-Some-parse.header in
-    let start = c.in-Some.field-0.start in
-    let why = refused-points c.in-Err.fault d.points c.in-Err.ensures in
-    let e =
-    reading_points (length c.args.table.now) c.args.text.now (ltb-false 16384 (length c.args.text.now) (sym c.is_too_long.ensures ∙ c.if-is_too_long.false)) start c.in-Some.field-0.end c.in-Some.ensures d
-    (sym c.in-Some-parse.ensures.value) why.1 in
-    let reads =
-    refusal c.args.text.now c.args.table.now c.into.result (start + d.points_at)
-    (e ∙ ap (λ (x : Cause). refused [] x (start + d.points_at)) (sym (c.into.ensures ∙ ap Open why.0))) in
-    record { reads = reads; back = reads_back; example = example }
+pub returns-clause-reads : goal.returns-clause-reads
+returns-clause-reads c =
+    let table = c.args.table.now in
+    let text = c.args.text.now in
+    let line = c.in_ok-line.line in
+    let d = c.in_ok-header.header in
+    let case = c.in_ok-case.case in
+    let stands = rw c.in_ok-line.ensures.ok_part at c.header_line.ensures in
+    let end = line.start + length line.bytes.now in
+    let walks = c.in_ok-tokens.ensures (length text) in
+    reads text table _ _ (body case.points d.clauses (length table) (length text) (words_left c.new.result) begun)
+    (whole (length table) text (short _ _ c.is_too_long.ensures c.if-is_too_long.false) line.start end stands.line d
+    (ap header_of (sym stands.bytes) ∙ sym c.parse.ensures.value ∙ c.in_ok-header.ensures.ok_part) case c.in_ok-case.ensures.points_are _
+    (c.new.ensures.left ∙ sym (tokens_words c.end.result (drop c.end.result text)) ∙ ap (λ (k : ℕ). tokens_from k (drop k text)) c.end.ensures))
+    (search rules) (search rules)

@@ -1,18 +1,30 @@
-use Rattle.std.proofs.Common.{sym, ◌∙◌, arith}
+use Rattle.std.proofs.Common.{◌≡◌, ◌+◌, List, length, IfSome, None, Some, MatchOption, Option, ℕ, not, rules, tests}
+use Rattle.std.specs.Option.{option_map}
+use Rattle.std.proofs.lemmas.Iterator.Consumers.{YieldsList-from_first}
+use Rattle.std.proofs.lemmas.Iterator.Search.{find_from_yields_List}
+use Rattle.lexer.specs.Text.{lines_from}
 use Rattle.lexer.specs.Cuts.{part}
-use Rattle.lexer.proofs.Letters.{comment_begins, other_begins}
-use Rattle.lexer.proofs.Lines.{comment_more, comment_last, header_here}
+use Rattle.lexer.specs.Parts.{piece_of, lines_left}
+use Rattle.lexer.specs.Headers.{begins_with, headed, HeaderAt}
+use Rattle.lexer.specs.declared.part.Part.{Part}
+use Rattle.lexer.proofs.LineLaws.{Headline, header_found}
 use Rattle.lexer.proofs.headers.header_line.Goals as goal
 
-pub returns-in_default : goal.returns-in_default
-returns-in_default c =
-    header_here c.args.text.now c.loop-start.start c.piece_end-end.result c.loop-start.invariant.0 c.piece_end-end.ensures.value c.loop-start.invariant.1 (other_begins (part c.loop-start.start c.piece_end-end.result c.args.text.now) (λ e. c.in_default.not-Comment (c.line_kind.ensures ∙ e)))
+-- what is said of the piece that is found, said of the part
+line_of : (text : List ℕ) (none : Type 0) (r : Option Part) → MatchOption (option_map piece_of r) none (Headline text) → MatchOption r none (λ l. HeaderAt text l.start (l.start + length l.bytes.now))
+line_of text none None h = h
+line_of text none (Some l) h = h.0
 
-pub returns-then-end-text : goal.returns-then-end-text
-returns-then-end-text c =
-    sym c.loop-start.invariant.1 ∙ comment_last c.args.text.now c.loop-start.start c.piece_end-end.result c.loop-start.invariant.0 c.piece_end-end.ensures.value (comment_begins (part c.loop-start.start c.piece_end-end.result c.args.text.now) (sym c.in-Comment.ensures)) (omega arith)
+bytes_of : (text : List ℕ) (none : Type 0) (r : Option Part) → MatchOption (option_map piece_of r) none (Headline text) → IfSome r (λ l. l.bytes.now ≡ part l.start (l.start + length l.bytes.now) text)
+bytes_of text none None h = tt
+bytes_of text none (Some l) h = h.1
 
-pub loop-start-preserved : goal.loop-start-preserved
-loop-start-preserved c =
-    let inside = c.piece_end-end.ensures.inside c.loop-start.invariant.0 in
-    (omega arith, sym (comment_more c.args.text.now c.loop-start.start c.piece_end-end.result c.loop-start.invariant.0 c.piece_end-end.ensures.value (comment_begins (part c.loop-start.start c.piece_end-end.result c.args.text.now) (sym c.in-Comment.ensures)) (omega arith)) ∙ c.loop-start.invariant.1)
+pub returns : goal.returns
+returns c =
+    let text = c.args.text.now in
+    let found =
+    find_from_yields_List (λ l. not (begins_with 99 l.1)) c.find.new.self _ c.find.result c.find.ensures.ran
+    (YieldsList-from_first piece_of lines_left (lines_from 0 text) c.new.ensures) (λ x b q k. search (rules, tests)) in
+    let here = header_found text (option_map piece_of c.find.result) found in
+    let none : Type 0 = headed (lines_from 0 text) ≡ None in
+    record { line = line_of text none c.find.result here; bytes = bytes_of text none c.find.result here }

@@ -1,57 +1,38 @@
-use Rattle.std.proofs.Common.{true, false, codes, sym, ◌∙◌}
-use Rattle.std.proofs.lemmas.Bool.{eqb-true, eqb-false, and_left, and_right}
-use Rattle.lexer.specs.Cuts.{part}
-use Rattle.lexer.proofs.Headlines.{no_words, one_word, two_words, three_words, not_ended, same_from_ne, wrong_words, no_points, no_clauses, all_said}
+use Rattle.std.proofs.Common.{cond, None, arith, ◌≡◌, [], ◌∷◌, sym, ap, ◌∙◌}
+use Rattle.std.proofs.lemmas.Grind.{common_steps}
+use Rattle.lexer.specs.Headers.{fields, fields_of}
+use Rattle.lexer.specs.Parts.{piece_of}
+use Rattle.lexer.specs.declared.pieces.Cut.TheVariants.{Blank}
+use Rattle.lexer.proofs.Headlines.{word_in, fields_four}
 use Rattle.lexer.proofs.headers.Header.from_words.Goals as goal
-use Rattle.lexer.proofs.headers.Header.from_words.Goals.{then-ne-via-then-ne, then-ne-via-else-ne+then-ne-2}
+use Rattle.lexer.proofs.headers.Header.from_words.Goals.{After-ends_line}
 
-pub returns-in_err-letter : goal.returns-in_err-letter
-returns-in_err-letter c = c.from_residual.ensures ∙ no_words c.args.line.now c.in_err-letter.ensures
+-- what the line says, by the four words that the code has taken
+said : (c : After-ends_line)
+    → fields_of c.args.line.now
+    ≡ cond c.ends_line.result (fields (piece_of c.in_ok-letter.letter ∷ piece_of c.in_ok-format.format ∷ piece_of c.in_ok-points.points ∷ piece_of c.in_ok-clauses.clauses ∷ [])) None
+said c =
+    let s = c.next-3.new.self in
+    let w₁ = c.in_ok-letter.ensures.steps in
+    let w₂ = c.in_ok-format.ensures.steps in
+    let w₃ = c.in_ok-points.ensures.steps in
+    let w₄ = c.in_ok-clauses.ensures.steps in
+    let first = piece_of c.in_ok-letter.letter in
+    let second = piece_of c.in_ok-format.format in
+    let third = piece_of c.in_ok-points.points in
+    let fourth = piece_of c.in_ok-clauses.clauses in
+    let line : s.text ≡ c.args.line = w₃.1.text ∙ w₂.1.text ∙ w₁.1.text ∙ c.new-words.ensures.text in
+    let blank : s.cut ≡ Blank = w₃.1.cut ∙ w₂.1.cut ∙ w₁.1.cut ∙ c.new-words.ensures.cut in
+    let all = sym c.new-words.ensures.left ∙ w₁.0 ∙ ap (λ ws. first ∷ ws) (w₂.0 ∙ ap (λ ws. second ∷ ws) (w₃.0 ∙ ap (λ ws. third ∷ ws) w₄.0)) in
+    rw c.ends_line.ensures
+    (fields_four c.args.line.now s.at first second third fourth _ all (word_in c.args.line.now s c.in_ok-clauses.clauses c.next-4.new.self (ap (λ text. text.now) line) blank w₄.1))
 
-pub returns-in_err-format : goal.returns-in_err-format
-returns-in_err-format c =
-    c.from_residual-in_err-format.ensures ∙ one_word c.args.line.now _ _ c.in_ok-letter.ensures c.in_err-format.ensures
+pub returns-then-not-ends_line-clause-value : goal.returns-then-not-ends_line-clause-value
+returns-then-not-ends_line-clause-value c =
+    let is = said (goal.at.returns-then-not-ends_line-clause-value c).After-ends_line in
+    grind (arith, common_steps)
 
-pub returns-in_err-points : goal.returns-in_err-points
-returns-in_err-points c =
-    c.from_residual-in_err-points.ensures ∙ two_words c.args.line.now _ _ c.in_ok-letter.ensures _ _ c.in_ok-format.ensures c.in_err-points.ensures
-
-pub returns-in_err-clauses : goal.returns-in_err-clauses
-returns-in_err-clauses c =
-    c.from_residual-in_err-clauses.ensures ∙ three_words c.args.line.now _ _ c.in_ok-letter.ensures _ _ c.in_ok-format.ensures _ _ c.in_ok-points.ensures c.in_err-clauses.ensures
-
-pub returns-then-not-ends_line : goal.returns-then-not-ends_line
-returns-then-not-ends_line c =
-    not_ended c.args.line.now _ _ c.in_ok-letter.ensures _ _ c.in_ok-format.ensures _ _ c.in_ok-points.ensures _ _ c.in_ok-clauses.ensures (eqb-false _ _ (sym c.if-not-ends_line.ensures))
-
-pub returns-then-ne : goal.returns-then-ne
-returns-then-ne c =
-    let line = c.args.line.now in
-    let w₁ = c.in_ok-letter.letter in
-    let w₂ = c.in_ok-format.format in
-    wrong_words line _ _ c.in_ok-letter.ensures _ _ c.in_ok-format.ensures _ _ c.in_ok-points.ensures _ _ c.in_ok-clauses.ensures (eqb-true _ _ (sym c.if-not-ends_line.ensures))
-    (elim c.then-ne.branch [
-      | then-ne-via-then-ne w ↦ and_left _ _ (same_from_ne (part w₁.start w₁.end line) (codes "p") _ true c.as_slice.ensures w.if-ne.ensures)
-      | then-ne-via-else-ne+then-ne-2 w ↦ and_right _ _ (same_from_ne (part w₂.start w₂.end line) (codes "cnf") _ true w.as_slice-else-ne.ensures w.if-ne-2.ensures)
-    ])
-
-pub returns-in_err-numeral : goal.returns-in_err-numeral
-returns-in_err-numeral c =
-    c.from_residual-in_err-numeral.ensures
-    ∙ no_points c.args.line.now _ _ c.in_ok-letter.ensures _ _ c.in_ok-format.ensures _ _ c.in_ok-points.ensures _ _ c.in_ok-clauses.ensures (eqb-true _ _ (sym c.if-not-ends_line.ensures)) c.in_err-numeral.ensures
-
-pub returns-in_err-numeral-2 : goal.returns-in_err-numeral-2
-returns-in_err-numeral-2 c =
-    c.from_residual-in_err-numeral-2.ensures
-    ∙ no_clauses c.args.line.now _ _ c.in_ok-letter.ensures _ _ c.in_ok-format.ensures _ _ c.in_ok-points.ensures _ _ c.in_ok-clauses.ensures (eqb-true _ _ (sym c.if-not-ends_line.ensures)) c.in_err-numeral-2.ensures
-
-pub returns : goal.returns
-returns c =
-    let line = c.args.line.now in
-    let w₁ = c.in_ok-letter.letter in
-    let w₂ = c.in_ok-format.format in
-    all_said line _ _ c.in_ok-letter.ensures _ _ c.in_ok-format.ensures _ _ c.in_ok-points.ensures _ _ c.in_ok-clauses.ensures (eqb-true _ _ (sym c.if-not-ends_line.ensures)) _ _
-    (same_from_ne (part w₁.start w₁.end line) (codes "p") _ false c.as_slice.ensures c.if-ne.ensures)
-    (same_from_ne (part w₂.start w₂.end line) (codes "cnf") _ false c.as_slice-else-ne.ensures c.if-ne-2.ensures)
-    c.in_ok-numeral.ensures
-    c.in_ok-numeral-2.ensures
+pub returns-clause-value : goal.returns-clause-value
+returns-clause-value c =
+    let is = said (goal.at.returns-clause-value c).After-ends_line in
+    grind (arith, common_steps)

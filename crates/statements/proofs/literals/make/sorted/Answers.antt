@@ -1,35 +1,11 @@
-use Rattle.std.proofs.Common.{◌≡◌, get_or, ℤ, pos, Err, sym, ap, ◌∙◌, w32, SFits, to_z, of_z, rules}
+use Rattle.std.proofs.Common.{◌≡◌, get_or, pos, sym, ap, ◌∙◌, w32, SFits, rules}
 use mir.ValLaws.{to_z-of_z}
-use Rattle.std.proofs.lemmas.Result.{err_from_is_err_and}
-use Rattle.std.proofs.lemmas.Bool.{cond-false}
-use Rattle.points.specs.Sets.{joined}
 use Rattle.points.specs.declared.set.PointSet.{PointSet}
 use Rattle.statements.specs.Literals.{signed}
-use Rattle.statements.specs.Making.{is_literal, are_literals, asserted, denied}
-use Rattle.statements.specs.declared.fault.MakeFault.TheVariants.{Magnitude}
 use Rattle.statements.specs.declared.literals.Literal.{Literal}
-use Rattle.statements.proofs.MakeLaws.{sorted_none, sorted_more, sorted_all, refused_alone, not_literals, literal_number, joined-none, denied_more}
+use Rattle.statements.proofs.MakeLaws.{sorted_more, literal_number, joined-none, denied_more}
 use Rattle.statements.proofs.literals.make.sorted.Goals as goal
 use Rattle.statements.proofs.literals.make.sorted.Goals.{in-Positive, in-Negative}
-
-pub loop-number-init : goal.loop-number-init
-loop-number-init c = sorted_none c.args.numbers.now _ _ c.empty-yes.ensures.value c.empty-no.ensures.value
-
--- the number at hand, as `new` was given it
-passed : (z : ℤ) → SFits w32 z → to_z w32 (of_z w32 z) ≡ z
-passed z f = to_z-of_z w32 z f
-
-pub returns-in_err-point : goal.returns-in_err-point
-returns-in_err-point c =
-    let zs = c.args.numbers.now in
-    let i = c.loop-number.number-index in
-    let z = get_or zs i (pos 0) in
-    let f : SFits w32 z = search rules in
-    let e = c.in_err-point.field-0.0 in
-    let alone = refused_alone e (to_z w32 (of_z w32 z)) c.in_err-point.ensures in
-    let out = not_literals zs i c.loop-number-test.true (sym (ap is_literal (passed z f)) ∙ alone.1) in
-    let r = err_from_is_err_and c.from_residual.result c.from_residual.ensures.1 in
-    r.1 ∙ ap Err (r.2 ∙ alone.0) ∙ sym (cond-false (are_literals zs) _ (Err Magnitude) out)
 
 pub loop-number-preserved : goal.loop-number-preserved
 loop-number-preserved c =
@@ -38,22 +14,12 @@ loop-number-preserved c =
     let z = get_or zs i (pos 0) in
     let f : SFits w32 z = search rules in
     let l = c.in_ok-point.field-0 in
-    let at : z ≡ signed l = sym (c.in_ok-point.ensures ∙ passed z f) in
-    let more = λ (y n : PointSet). sorted_more zs i c.loop-number.yes c.loop-number.no y n (signed l) c.loop-number-test.true at (literal_number l) c.loop-number.invariant in
+    let at : z ≡ signed l = sym (c.in_ok-point.ensures ∙ to_z-of_z w32 z f) in
+    let more = λ (y n : PointSet) (k : Literal) (is : l ≡ k).
+    sorted_more zs i c.loop-number.yes c.loop-number.no y n (signed k) c.loop-number-test.true (at ∙ ap signed is) (literal_number k) c.loop-number.invariant in
     elim c.match-branch-2.branch [
-      | in-Positive w ↦
-          more c.match-branch-2.yes c.match-branch-2.no
-          (w.yes-is ∙ w.with-yes.ensures ∙ ap (λ (k : Literal). joined c.loop-number.yes (asserted (signed k))) (sym w.in-Positive.is))
-          (w.no-is ∙ sym (joined-none c.loop-number.no) ∙ ap (λ (k : Literal). joined c.loop-number.no (denied (signed k))) (sym w.in-Positive.is))
+      | in-Positive w ↦ more _ _ _ w.in-Positive.is (w.yes-is ∙ w.with-yes.ensures) (w.no-is ∙ sym (joined-none c.loop-number.no))
       | in-Negative w ↦
-          more c.match-branch-2.yes c.match-branch-2.no
-          (w.yes-is ∙ sym (joined-none c.loop-number.yes) ∙ ap (λ (k : Literal). joined c.loop-number.yes (asserted (signed k))) (sym w.in-Negative.is))
-          (w.no-is
-          ∙ w.with-no.ensures
-          ∙ denied_more c.loop-number.no w.in-Negative.point
-          ∙ ap (λ (k : Literal). joined c.loop-number.no (denied (signed k))) (sym w.in-Negative.is))
+          more _ _ _ w.in-Negative.is (w.yes-is ∙ sym (joined-none c.loop-number.yes))
+          (w.no-is ∙ w.with-no.ensures ∙ denied_more c.loop-number.no w.in-Negative.point)
     ]
-
-pub returns : goal.returns
-returns c =
-    sorted_all c.args.numbers.now c.loop-number.number-index c.loop-number.yes c.loop-number.no c.loop-number-test.false c.loop-number.invariant

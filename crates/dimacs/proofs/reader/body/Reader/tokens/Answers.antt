@@ -1,25 +1,24 @@
-use Rattle.std.proofs.Common.{length}
-use Rattle.dimacs.specs.Reading.{at_end}
+use Rattle.std.proofs.Common.{Err, sym, ap, ◌∙◌}
+use Rattle.lexer.specs.Parts.{piece_of, words_left}
+use Rattle.dimacs.specs.Steps.{at_end_of}
 use Rattle.dimacs.proofs.WalkLaws.{walked_more, walked_refused, walked_all}
 use Rattle.dimacs.proofs.reader.body.Reader.tokens.Goals as goal
 
 pub returns-in-Err : goal.returns-in-Err
-returns-in-Err c =
+returns-in-Err c = λ end.
     let r = c.args.self.now in
-    let table = c.args.table.now in
-    let text = c.args.text.now in
-    let l = c.loop-start in
-    walked_refused text c.args.from l.at r table l.self l.table l.invariant (Unit {0})
-    (at_end r.case.points r.announced (length table) (length text))
-    c.in-Err.cause c.in-Some.field-0.start c.in-Some.field-0.end c.token.new.self c.token.new.table c.in-Some.ensures c.in-Err.ensures
+    let l = c.loop-word in
+    let walks = walked_refused end _ _ r l.self (l.invariant end) (Unit {0}) (at_end_of r end)
+    c.in-Err.cause (piece_of c.in-Some.word) (words_left c.next.new.self) c.token.new.self c.in-Some.ensures.steps.0 c.in-Err.ensures in
+    (walks.0 ∙ ap Err (sym c.at.ensures), walks.1)
 
-pub loop-start-preserved : goal.loop-start-preserved
-loop-start-preserved c =
-    let l = c.loop-start in
-    walked_more c.args.text.now c.args.from l.at c.args.self.now c.args.table.now l.self l.table l.invariant
-    (tt {0}) c.in-Some.field-0.start c.in-Some.field-0.end c.token.new.self c.token.new.table c.in-Some.ensures c.in_default-token.ensures
+pub loop-word-preserved : goal.loop-word-preserved
+loop-word-preserved c = λ end.
+    let l = c.loop-word in
+    walked_more end _ _ c.args.self.now l.self (l.invariant end)
+    (tt {0}) (piece_of c.in-Some.word) (words_left c.next.new.self) c.token.new.self c.in-Some.ensures.steps.0 c.in_default.ensures
 
 pub returns : goal.returns
-returns c =
-    let l = c.loop-start in
-    walked_all c.args.text.now c.args.from l.at c.args.self.now c.args.table.now l.self l.table l.invariant (tt {0}) c.in_default.ensures
+returns c = λ end.
+    let l = c.loop-word in
+    walked_all end _ _ c.args.self.now l.self (l.invariant end) (tt {0}) c.in-None.ensures.steps.0.0

@@ -1,9 +1,7 @@
-use Rattle.std.proofs.Common.{◌-◌, length}
+use Rattle.std.proofs.Common.{ℕ}
+use Rattle.lexer.specs.Parts.{words_left}
 use Rattle.dimacs.proofs.WalkLaws.{Walked}
 use Rattle.dimacs.proofs.reader.body.Reader.tokens.Given as goal
 
-abbrev pub invariant-loop-start : goal.invariant-loop-start
-invariant-loop-start l = Walked l.text l.initial.from l.at l.initial.self l.initial.table l.self l.table
-
-abbrev pub decreases-loop-start : goal.decreases-loop-start
-decreases-loop-start l = length l.text - l.at
+abbrev pub invariant-loop-word : goal.invariant-loop-word
+invariant-loop-word l = (end : ℕ) → Walked end (words_left l.fn.tokens) (words_left l.word-iterator) l.initial.self l.self

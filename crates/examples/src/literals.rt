@@ -31,8 +31,11 @@ fn asks_two_sets(rt: HostRuntime) -> Result<(), Fail> {
     assert!(rt; a.opposed_points(b) == points(&[1]));
     let rest = LiteralSet::make(&[2, -3, 4])?;
     assert!(rt; a.cancelled(b) == rest);
+    assert!(rt; a.cancelled(b).is_subset(rest) && rest.is_subset(a.cancelled(b)));
     let one = Point::new(1).ok_or("no point 1")?;
-    assert!(rt; a.resolvent(b, one) == Some(rest));
+    let resolvent = a.resolvent(b, one).ok_or("no resolvent")?;
+    assert!(rt; resolvent == rest);
+    assert!(rt; resolvent.is_subset(rest) && rest.is_subset(resolvent));
     let c = LiteralSet::make(&[1, 2])?;
     let d = LiteralSet::make(&[-1, -2])?;
     assert!(rt; c.opposed_points(d) == points(&[1, 2]));

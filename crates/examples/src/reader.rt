@@ -144,7 +144,9 @@ fn rows_hold_the_clauses(rt: HostRuntime) -> Result<(), Fail> {
     );
     let [first, second, third] = table;
     assert_eq!(rt; (first.length(), first.last()), (2, 7));
-    assert!(rt; first == Clause::make(&[3, -7])?);
+    let made = Clause::make(&[3, -7])?;
+    assert!(rt; first == made);
+    assert!(rt; first.covers(&made) && made.covers(&first));
     assert!(rt; second.impossible() && third.impossible());
     Ok(())
 }

@@ -1,8 +1,10 @@
 -- What the words of a header line say. Assumes nothing.
-use Rattle.std.proofs.Common.{◌==◌, ⊎_elim, ◌≡◌, ℕ, zero, suc, ◌+◌, ◌<◌, true, false, cond, List, [], ◌∷◌, length, drop, None, Bor, sym, refl, ap, ◌∙◌, arith, length-drop}
+use Rattle.std.proofs.Common.{◌==◌, ⊎_elim, ◌≡◌, ℕ, zero, suc, ◌+◌, ◌<◌, Bool, true, false, cond, not, List, [], ◌∷◌, length, drop, None, Bor, sym, refl, ap, ◌∙◌, arith, length-drop}
+use Rattle.std.proofs.Math.Bool.{not-not}
 use Rattle.std.proofs.lemmas.List.{drop_all}
 use Rattle.std.proofs.lemmas.Grind.{common_steps}
 use Rattle.std.proofs.lemmas.Bool.{eqb-true, eqb-false, cases_Bool, cond-true, cond-false}
+use Rattle.std.specs.Str.{bytes_eq}
 use Rattle.lexer.specs.Text.{Piece, is_blank, run, words}
 use Rattle.lexer.specs.Cuts.{cuts_at, FirstWord}
 use Rattle.lexer.specs.Parts.{piece_of, words_left, TakesWord}
@@ -17,6 +19,10 @@ last-drop bs zero h = refl
 last-drop [] (suc i) h = absurd (omega arith)
 last-drop (b ∷ []) (suc i) h = absurd (omega arith)
 last-drop (b ∷ c ∷ bs) (suc i) h = last-drop (c ∷ bs) i (omega arith)
+
+-- what `!=` on slices of bytes says, the second of which is ys
+pub same_from_ne : (xs ys slice : List ℕ) (r : Bool) → slice ≡ ys → r ≡ not (bytes_eq xs slice) → bytes_eq xs ys ≡ not r
+same_from_ne xs ys slice r is told = ap (bytes_eq xs) (sym is) ∙ sym (not-not (bytes_eq xs slice)) ∙ ap not (sym told)
 
 -- w is the first word of a line at `from` or later, and ws are the words after it
 pub record WordIn (line : List ℕ) (from : ℕ) (w : Piece) (ws : List Piece) : Type 0 where

@@ -13,7 +13,7 @@ use Rattle.lexer.proofs.Tokens.{tokens_none, tokens_line_end}
 -- `end` is where the line that begins at `start` ends
 module _ (text : List ℕ) (start end : ℕ) (h : start ≤ length text) (e : end ≡ start + run is_line_end (drop start text)) where
   -- the lines after this one
-  abbrev others : List Piece
+  abbrev pub others : List Piece
   others = placed (end + 1) (later is_line_end (drop end text))
 
   first_line : lines_from start (drop start text) ≡ (start, part start end text) ∷ others
@@ -46,16 +46,16 @@ module _ (text : List ℕ) (start end : ℕ) (h : start ≤ length text) (e : en
       (cases_lt end (length text))
 
   -- a comment is passed over
-  comment_more : begins_with 99 (part start end text) ≡ true → end < length text → headed (lines_from start (drop start text)) ≡ headed (lines_from (end + 1) (drop (end + 1) text))
+  pub comment_more : begins_with 99 (part start end text) ≡ true → end < length text → headed (lines_from start (drop start text)) ≡ headed (lines_from (end + 1) (drop (end + 1) text))
   unfolding headed
   comment_more b k = ap headed first_line ∙ cond-true _ _ _ b ∙ ap headed (others_more k)
 
-  comment_last : begins_with 99 (part start end text) ≡ true → length text ≤ end → headed (lines_from start (drop start text)) ≡ None
+  pub comment_last : begins_with 99 (part start end text) ≡ true → length text ≤ end → headed (lines_from start (drop start text)) ≡ None
   unfolding headed
   comment_last b k = ap headed first_line ∙ cond-true _ _ _ b ∙ ap headed (others_none k)
 
   -- any other line is the header line
-  header_here : headed (lines_from start (drop start text)) ≡ headed (lines_from 0 text) → begins_with 99 (part start end text) ≡ false → HeaderAt text start end
+  pub header_here : headed (lines_from start (drop start text)) ≡ headed (lines_from 0 text) → begins_with 99 (part start end text) ≡ false → HeaderAt text start end
   unfolding headed
   header_here same b = record {
     after = others;

@@ -28,7 +28,7 @@ module _ (cuts : ℕ → Bool) where
       grind (arith, nat_tests)
 
   -- after a run comes a byte that cuts, or the end
-  run_stops : (bs : List ℕ) → run cuts bs < length bs → cuts (get_or bs (run cuts bs) 0) ≡ true
+  pub run_stops : (bs : List ℕ) → run cuts bs < length bs → cuts (get_or bs (run cuts bs) 0) ≡ true
   run_stops bs h = let is = run_position bs in grind (arith, common_steps, prefix_len_stops (λ b. not (cuts b)) bs 0)
 
   -- no run follows a run

@@ -48,7 +48,9 @@ impl<'a> Iterator for Words<'a> {
 
     ghost remaining = { item_count words_left };
 
-    // The first word that is left, or `None` where only bytes that cut are left.
+    // The first word that is left, or `None` where only bytes that cut are left. Inlined, so that a caller's cut is known in the loops
+    // over the bytes.
+    #[inline]
     fn next(&mut self) -> Option<Part<'a>> {
         let start = self.next_start()?;
         let end = piece_end(self.text, start, self.cut);

@@ -1,10 +1,10 @@
 -- What the sets have for members, and that their members tell them apart. Assumes nothing.
-use Rattle.std.proofs.Common.{◌≡◌, ℕ, zero, suc, ◌-◌, ◌^◌, ◌<◌, ◌≤◌, min, Bool, true, false, not, ◌&&◌, ◌||◌, eqb, ◌⊎◌, Decides, sym, refl, ap, ◌∙◌, inl, inr, not-suc-le-zero, mod-eq_of_lt, one-mul, ◌*◌, ◌%◌, arith, w64}
+use Rattle.std.proofs.Common.{◌≡◌, ℕ, zero, suc, ◌+◌, ◌-◌, ◌/◌, ◌^◌, ◌<◌, ◌≤◌, min, Bool, true, false, not, ◌&&◌, ◌||◌, eqb, ◌⊎◌, Decides, sym, refl, ap, ◌∙◌, inl, inr, not-suc-le-zero, mod-eq_of_lt, one-mul, pow-suc, ◌*◌, ◌%◌, arith, w64}
 use mathlib.Core.HLevel.{is_prop→PathP}
 use native.Mathlib.Bridge.{le_prop}
 use lib.Bits.{bit_and, bit_or}
 use Rattle.std.specs.Int.{bit_at}
-use Rattle.std.proofs.lemmas.Nat.Bits.{bit_at_and, bit_at_or, bit_at_not, bit_at-lt, bit_at_above, bit_at-zero, bit_at-pow_same, bit_at-pow_other, same_from_bits_below}
+use Rattle.std.proofs.lemmas.Nat.Bits.{bit_at_and, bit_at_or, bit_at_not, bit_at-lt, bit_at_above, bit_at_lowest, bit_at-suc, bit_at-zero, bit_at-pow_same, bit_at-pow_other, same_from_bits_below}
 use lib.Pow.{pow-lt}
 use Rattle.std.proofs.lemmas.Bool.{false_from_ne_true, and_parts, eqb-true, eq-eqb, cases_eq, cases_lt, both_ways, true≢false}
 use Rattle.std.proofs.lemmas.Bool.Decides.{nat_tests}
@@ -33,6 +33,14 @@ beyond_none s (suc k) h = ap (λ (d : ℕ). eqb d 1) (bit_at_above s.bits 64 k s
 
 pub member_small : (s : PointSet) (p : ℕ) → member s p ≡ true → p ≤ 64
 member_small s p h = let beyond = beyond_none s p in grind arith
+
+-- two numbers of w digits that add up to w ones have opposite digits
+pub digit_opposite : (w a b k : ℕ) → a + b + 1 ≡ 2 ^ w → k < w → bit_at b k ≡ 1 - bit_at a k
+digit_opposite zero a b k e lt = absurd (omega arith)
+digit_opposite (suc w) a b zero e lt = omega (arith, bit_at_lowest a, bit_at_lowest b, pow-suc 2 w)
+digit_opposite (suc w) a b (suc k) e lt =
+    let halves : a / 2 + b / 2 + 1 ≡ 2 ^ w = omega (arith, pow-suc 2 w) in
+    bit_at-suc b k ∙ digit_opposite w (a / 2) (b / 2) k halves (omega arith) ∙ sym (ap (λ (d : ℕ). 1 - d) (bit_at-suc a k))
 
 -- ---- what each operation has for members
 

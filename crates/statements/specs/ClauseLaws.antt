@@ -130,7 +130,7 @@ clause_exact = record {
 -- ---- combine
 
 -- a point that the two name oppositely is from 1 to 64
-opposed_range : (s t : LiteralSet) (p : ℕ) → opposed s t p ≡ true → (1 ≤ p) × (p ≤ 64)
+pub opposed_range : (s t : LiteralSet) (p : ℕ) → opposed s t p ≡ true → (1 ≤ p) × (p ≤ 64)
 opposed_range s t p op = go (or_cases (member s.yes p && member t.no p) (member s.no p && member t.yes p) op)
   where
     go : ((member s.yes p && member t.no p) ≡ true) ⊎ ((member s.no p && member t.yes p) ≡ true) → (1 ≤ p) × (p ≤ 64)

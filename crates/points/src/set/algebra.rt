@@ -65,7 +65,7 @@ impl PointSet {
 
 // The set of one point.
 impl From<Point> for PointSet {
-    ghost from_gives = { λ p s. s ≡ single p.number };
+    ghost from_gives = { λ p s. (s ≡ single p.number) × ((q : ℕ) → member s q ≡ (q == p.number)) };
 
     #[tactic(auto, using(crate::proofs::Members::members))]
     fn from(point: Point) -> PointSet
